@@ -1,0 +1,8 @@
+-- What an address says.
+use mathlib.Core.List.{List}
+use Prim.Native.Nat.{ℕ}
+use lib.ListN.{take}
+use Rattle.node.specs.declared.address.NodeAddress.{NodeAddress}
+
+abbrev pub host-of : NodeAddress → List ℕ
+host-of a = take (a .len) (a .host)

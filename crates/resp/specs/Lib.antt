@@ -1,0 +1,4 @@
+pub mod Read
+pub mod Line
+pub mod Place
+pub mod Number

@@ -1,2 +1,5 @@
 pub mod Hosts
 pub mod Same
+pub mod Ports
+pub mod Fronts
+pub mod Readings

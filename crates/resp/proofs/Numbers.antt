@@ -11,7 +11,7 @@ use Rattle.std.proofs.shelf.Tests.{le-ltb, lt-ltb}
 use Rattle.std.proofs.shelf.Ways.{tells}
 use Rattle.std.specs.declared.option.Option.{Option}
 use Rattle.std.specs.declared.option.Option.the-variants.{Some, None}
-use Rattle.resp.specs.Number.{digit, digits, natural, below, positive, negative, integer}
+use Rattle.resp.specs.Number.{digit, digits, natural, below, positive, negative, signed}
 
 -- the number only grows
 pub digits-far : (b n : ℕ) (cs : List ℕ) → b ≤ n → below b (digits n cs) ≡ None
@@ -55,16 +55,16 @@ negative-below (Some n) = grind (arith, tells)
 
 -- a sign, and what was read of the digits behind it
 module _ (cs : List ℕ) (o : Option ℕ) (e : o ≡ below (2 ^ 64) (natural (take (length cs - 1) (drop 1 cs)))) where
-  pub integer-minus : getD cs 0 0 ≡ 45 → negative o ≡ integer cs
+  pub integer-minus : getD cs 0 0 ≡ 45 → negative o ≡ signed cs
   integer-minus first = ap negative e ∙ negative-below (natural (take (length cs - 1) (drop 1 cs))) ∙ go cs first
     where
-      go : (l : List ℕ) → getD l 0 0 ≡ 45 → negative (natural (take (length l - 1) (drop 1 l))) ≡ integer l
+      go : (l : List ℕ) → getD l 0 0 ≡ 45 → negative (natural (take (length l - 1) (drop 1 l))) ≡ signed l
       go [] f = absurd (omega arith)
       go (c ∷ l) f = rw (f, take-rest (c ∷ l) 1)
 
-  pub integer-plus : getD cs 0 0 ≡ 43 → positive o ≡ integer cs
+  pub integer-plus : getD cs 0 0 ≡ 43 → positive o ≡ signed cs
   integer-plus first = ap positive e ∙ positive-below (natural (take (length cs - 1) (drop 1 cs))) ∙ go cs first
     where
-      go : (l : List ℕ) → getD l 0 0 ≡ 43 → positive (natural (take (length l - 1) (drop 1 l))) ≡ integer l
+      go : (l : List ℕ) → getD l 0 0 ≡ 43 → positive (natural (take (length l - 1) (drop 1 l))) ≡ signed l
       go [] f = absurd (omega arith)
       go (c ∷ l) f = rw (f, take-rest (c ∷ l) 1)

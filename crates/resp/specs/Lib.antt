@@ -1,4 +1,7 @@
 pub mod Read
 pub mod Line
-pub mod Place
 pub mod Number
+pub mod Value
+pub mod Reading
+pub mod Place
+pub mod Told

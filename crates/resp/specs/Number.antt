@@ -34,6 +34,6 @@ negative None = None
 negative (Some n) = cond (leb n (2 ^ 63)) (Some (negℤ (pos n))) None
 
 -- an optional sign, then digits, within 64 signed bits
-abbrev pub integer : List ℕ → Option ℤ
-integer [] = None
-integer (c ∷ cs) = cond (eqb c 45) (negative (natural cs)) (cond (eqb c 43) (positive (natural cs)) (positive (natural (c ∷ cs))))
+abbrev pub signed : List ℕ → Option ℤ
+signed [] = None
+signed (c ∷ cs) = cond (eqb c 45) (negative (natural cs)) (cond (eqb c 43) (positive (natural cs)) (positive (natural (c ∷ cs))))

@@ -1,2 +1,4 @@
 mod line;
 mod number;
+mod place;
+mod token;

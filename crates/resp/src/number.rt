@@ -1,7 +1,7 @@
 ghost use mathlib.Core.Path.{_≡_};
 ghost use mathlib.Core.List.{[], _∷_};
 ghost use Prim.Native.Nat.{_^_};
-ghost use Rattle.resp.specs.Number.{natural as naturalOf, below, digits, integer as integerOf, positive as positiveOf, negative as negativeOf};
+ghost use Rattle.resp.specs.Number.{natural as naturalOf, below, digits, signed, positive as positiveOf, negative as negativeOf};
 ghost use Rattle.std.specs.declared.option.Option.the-variants.{Some};
 
 // The number that one or more digits write, if it is below 2^64.
@@ -42,7 +42,7 @@ fn negative(n: Option<u64>) -> Option<i64>
 
 // The number that an optional sign and digits write, within 64 signed bits.
 pub fn integer(text: &[u8]) -> Option<i64>
-    ensures { λ r. ⌜ r ≡ integerOf (now (text .entry)) ⌝ }
+    ensures { λ r. ⌜ r ≡ signed (now (text .entry)) ⌝ }
 {
     match text {
         [b'-', digits @ ..] => negative(natural(digits)),

@@ -1,0 +1,32 @@
+// A part of some bytes: those from `start` up to below `end`.
+#[derive(Clone, Copy)]
+pub struct Place {
+    pub start: usize,
+    pub end: usize,
+}
+
+// What stands at the front of some bytes: a value that is whole, or the head of an array.
+#[derive(Clone, Copy)]
+pub enum Head {
+    Simple(Place),
+    Error(Place),
+    Integer(i64),
+    Bulk(Place),
+    Nil,
+    // The number of elements, which stand right behind.
+    Array(usize),
+}
+
+// A head and the number of bytes that it takes.
+#[derive(Clone, Copy)]
+pub struct Token {
+    pub head: Head,
+    pub len: usize,
+}
+
+// A length: the bytes of its line, and the number, or none for Nil.
+#[derive(Clone, Copy)]
+pub struct Size {
+    pub len: usize,
+    pub count: Option<usize>,
+}

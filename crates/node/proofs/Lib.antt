@@ -1,5 +1,7 @@
 pub mod Hosts
-pub mod Same
 pub mod Ports
 pub mod Fronts
 pub mod Readings
+pub mod Splits
+pub mod Named
+pub mod Compared

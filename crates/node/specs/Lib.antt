@@ -4,3 +4,6 @@ pub mod Address
 pub mod Port
 pub mod Text
 pub mod Readable
+pub mod Order
+pub mod Same
+pub mod Ranks

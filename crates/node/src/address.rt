@@ -3,6 +3,7 @@ ghost use mathlib.Core.Bool.{true};
 ghost use Rattle.node.specs.Host.{formed};
 
 mod making;
+mod order;
 
 #[derive(Clone, Copy)]
 pub struct NodeAddress {

@@ -1,3 +1,5 @@
+pub mod Shared
 pub mod Lines
 pub mod Numbers
 pub mod Tokens
+pub mod Walks

@@ -7,12 +7,13 @@ use Rattle.std.specs.declared.option.Option.the-variants.{Some, None}
 use Rattle.resp.specs.Read.{Read, read}
 use Rattle.resp.specs.Reading as reading
 use Rattle.resp.specs.Reading.{whole, elements}
-use Rattle.resp.specs.Value.{simple-string, simple-error, integer, bulk-string, null}
+use Rattle.resp.specs.Value.{Value, simple-string, simple-error, integer, bulk-string, null, first-error}
 use Rattle.resp.specs.declared.place.Place.{Place}
 use Rattle.resp.specs.declared.place.Head.{Head}
 use Rattle.resp.specs.declared.place.Head.the-variants.{Simple, Error, Integer, Bulk, Nil, Array}
 use Rattle.resp.specs.declared.place.Size.{Size}
 use Rattle.resp.specs.declared.place.Token.{Token}
+use Rattle.resp.specs.declared.place.Walk.{Walk}
 
 abbrev pub part : List ℕ → Place → List ℕ
 part bs p = take (p .end - p .start) (drop (p .start) bs)
@@ -56,3 +57,29 @@ Counts n s (Some k) = s .len + k ≤ n
 abbrev pub Sized : List ℕ → Option Size → Type 0
 Sized bs None = Unit {0}
 Sized bs (Some s) = Counts (length bs) s (s .count)
+
+-- of a value that was read, the text of the first error in it
+abbrev pub seen : Option (Read Value) → Option (Read (Option (List ℕ)))
+seen None = None
+seen (Some x) = read (first-error (x .value)) (x .rest)
+
+abbrev pub text-at : List ℕ → Option Place → Option (List ℕ)
+text-at bs None = None
+text-at bs (Some p) = Some (part bs p)
+
+-- the same place, counted from n bytes further back
+abbrev pub moved : ℕ → Option Place → Option Place
+moved n None = None
+moved n (Some p) = Some (record { start = n + p .start; end = n + p .end })
+
+abbrev pub told-walk : List ℕ → Option Walk → Option (Read (Option (List ℕ)))
+told-walk bs None = None
+told-walk bs (Some w) = read (text-at bs (w .error)) (drop (w .len) bs)
+
+abbrev pub Errs : ℕ → Option Place → Type 0
+Errs n None = Unit {0}
+Errs n (Some p) = Inside n p
+
+abbrev pub Walked : List ℕ → Option Walk → Type 0
+Walked bs None = Unit {0}
+Walked bs (Some w) = (w .len ≤ length bs) × Errs (length bs) (w .error)

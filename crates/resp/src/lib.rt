@@ -2,3 +2,4 @@ mod line;
 mod number;
 mod place;
 mod token;
+mod walk;

@@ -30,3 +30,10 @@ pub struct Size {
     pub len: usize,
     pub count: Option<usize>,
 }
+
+// A value that is whole: the bytes that it takes, and the text of the first error in it.
+#[derive(Clone, Copy)]
+pub struct Walk {
+    pub len: usize,
+    pub error: Option<Place>,
+}

@@ -1,11 +1,15 @@
 ghost use mathlib.Core.Path.{_≡_};
-ghost use Rattle.std.specs.Options.{isSome};
+ghost use Rattle.std.specs.Options.{isSome, mapped};
 ghost use Rattle.std.specs.Slices.{found};
-ghost use Rattle.node.specs.Address.{host-of};
+ghost use Rattle.node.specs.Address.{host-of, name-of};
 ghost use Rattle.node.specs.Host.{host-form};
+ghost use Rattle.node.specs.Readable.{Answer};
+ghost use Rattle.node.specs.Text.{readable};
 use super::NodeAddress;
 use crate::host::is_host;
 use crate::host::padded;
+use crate::split::Split;
+use crate::split::split_node_address;
 
 impl NodeAddress {
     pub fn new(host: &[u8], port: u16) -> Option<NodeAddress>
@@ -20,6 +24,14 @@ impl NodeAddress {
             len: host.len() as u8,
             port,
         })
+    }
+
+    pub fn parse(text: &[u8]) -> Option<NodeAddress>
+        ensures value { λ r. ⌜ mapped name-of r ≡ readable (now (text .entry)) ⌝ }
+        ensures answer { λ r. ⌜ Answer (now (text .entry)) (mapped name-of r) ⌝ }
+    {
+        let Split { host, port } = split_node_address(text)?;
+        NodeAddress::new(&text[0..host], port)
     }
 
     pub fn host(&self) -> &[u8]

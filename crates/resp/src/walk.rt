@@ -1,0 +1,51 @@
+ghost use mathlib.Core.Path.{_≡_};
+ghost use Prim.Native.Nat.{_-_, _^_};
+ghost use Rattle.resp.specs.Reading.{value as valueOf};
+ghost use Rattle.resp.specs.Told.{moved, seen, told-walk, Errs, Walked};
+ghost use Rattle.resp.specs.Value.{or-else};
+use crate::place::Head;
+use crate::place::Place;
+use crate::place::Walk;
+use crate::token::token;
+
+// The first of two errors, of which the later one was found `by` bytes further on.
+fn first_of(error: Option<Place>, later: Option<Place>, by: usize) -> Option<Place>
+    requires { ⌜ Errs (2 ^ 64 - 1 - by) later ⌝ }
+    ensures { λ r. ⌜ r ≡ or-else error (moved by later) ⌝ }
+{
+    match (error, later) {
+        (None, Some(place)) => Some(Place {
+            start: by + place.start,
+            end: by + place.end,
+        }),
+        _ => error,
+    }
+}
+
+// One value at the front of `bytes`, with arrays nested at most `depth` deep.
+pub fn walk(bytes: &[u8], depth: u32) -> Option<Walk>
+    ensures within { λ r. ⌜ Walked (now (bytes .entry)) r ⌝ }
+    ensures value { λ r. ⌜ told-walk (now (bytes .entry)) r ≡ seen (valueOf depth (now (bytes .entry))) ⌝ }
+{
+    let token = token(bytes)?;
+    let mut len = token.len;
+    match token.head {
+        Head::Array(count) => {
+            if depth == 0 {
+                return None;
+            }
+            let mut error = None;
+            for _i in 0..count {
+                let next = walk(&bytes[len..], depth - 1)?;
+                error = first_of(error, next.error, len);
+                len += next.len;
+            }
+            Some(Walk { len, error })
+        }
+        Head::Error(place) => Some(Walk {
+            len,
+            error: Some(place),
+        }),
+        Head::Simple(_) | Head::Integer(_) | Head::Bulk(_) | Head::Nil => Some(Walk { len, error: None }),
+    }
+}

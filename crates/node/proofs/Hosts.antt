@@ -8,7 +8,7 @@ use lib.Dec.{eqb, leb}
 use lib.ListN.{length, getD, take, drop, replicate, length-append, length-drop, length-replicate, take-append-drop}
 use Rattle.std.proofs.shelf.Lists.{length-take-le, at-drop-more, at-drop-all, take-at, drop-at, drop-replicate}
 use Rattle.std.proofs.shelf.Tests.{and-parts, and-from, eqb-true, eq-eqb, leb-true, le-leb}
-use Rattle.node.specs.Host.{visible, all-visible, host-form, all-zero, formed}
+use Rattle.node.specs.Host.{visible, all-visible, host-form, all-zero, padded-host}
 
 -- `all-visible`, one byte at a time
 module _ (bs : List ℕ) (n : ℕ) where
@@ -25,33 +25,6 @@ module _ (bs : List ℕ) (n : ℕ) where
 pub padding : (bytes front : List ℕ) (n : ℕ) → front ≡ bytes → n ≡ length bytes → front ++ drop n (replicate 64 0) ≡ bytes ++ replicate (64 - length bytes) 0
 padding bytes front n same long = (λ i. same i ++ drop (long i) (replicate 64 0)) ∙ ap (λ zs. bytes ++ zs) (drop-replicate (length bytes) 64 0)
 
-pub zeros-are : (zs : List ℕ) → all-zero zs ≡ true → zs ≡ replicate (length zs) 0
-zeros-are [] h = refl
-zeros-are (z ∷ zs) h = let p = and-parts (eqb z 0) (all-zero zs) h in λ i. eqb-true z 0 (p .0) i ∷ zeros-are zs (p .1) i
-
-pub record Formed (bytes : List ℕ) (n : ℕ) : Type 0 where
-  pub whole : length bytes ≡ 64
-  pub within : n ≤ 64
-  pub form : host-form (take n bytes) ≡ true
-  pub padded : bytes ≡ take n bytes ++ replicate (64 - n) 0
-  pub long : n ≡ length (take n bytes)
-
-pub formed-parts : (bytes : List ℕ) (n : ℕ) → formed bytes n ≡ true → Formed bytes n
-formed-parts bytes n h =
-    let p = and-parts _ _ h in
-    let q = and-parts _ _ (p .0) in
-    let r = and-parts _ _ (q .0) in
-    let whole = eqb-true (length bytes) 64 (r .0) in
-    let within = leb-true n 64 (r .1) in
-    let left : length (drop n bytes) ≡ 64 - n = omega (arith, length-drop n bytes) in
-    record {
-      whole = whole;
-      within = within;
-      form = q .1;
-      padded = sym (take-append-drop n bytes) ∙ ap (λ zs. take n bytes ++ zs) (zeros-are (drop n bytes) (p .1) ∙ ap (λ k. replicate k 0) left);
-      long = sym (length-take-le n bytes (omega arith));
-    }
-
 zeros-zero : (n : ℕ) → all-zero (replicate n 0) ≡ true
 zeros-zero zero = refl
 zeros-zero (suc n) = zeros-zero n
@@ -64,7 +37,7 @@ module _ (bytes all : List ℕ) (form : host-form bytes ≡ true) (is : all ≡ 
   pub front-host : take (length bytes) all ≡ bytes
   front-host = ap (take (length bytes)) is ∙ take-at bytes (replicate (64 - length bytes) 0) (length bytes) refl
 
-  pub padded-formed : formed all (length bytes) ≡ true
+  pub padded-formed : padded-host all (length bytes) ≡ true
   padded-formed =
       let short = host-within bytes form in
       let zeros : List ℕ = replicate (64 - length bytes) 0 in

@@ -158,5 +158,5 @@ module _ (text : List ℕ) where
   pub answer : Answer text (readable text)
   answer = answered (readable text) refl
 
-pub readings : Readings
+pub readings : Readings readable
 readings = record { right = right; complete = complete; single = single }

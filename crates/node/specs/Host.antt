@@ -22,5 +22,5 @@ all-zero [] = true
 all-zero (b ∷ bs) = eqb b 0 && all-zero bs
 
 -- a host of n bytes, and zeros behind it up to 64 bytes
-abbrev pub formed : List ℕ → ℕ → Bool
-formed bytes n = eqb (length bytes) 64 && leb n 64 && host-form (take n bytes) && all-zero (drop n bytes)
+abbrev pub padded-host : List ℕ → ℕ → Bool
+padded-host bytes n = eqb (length bytes) 64 && leb n 64 && host-form (take n bytes) && all-zero (drop n bytes)

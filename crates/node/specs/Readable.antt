@@ -9,7 +9,6 @@ use Rattle.std.specs.declared.option.Option.{Option}
 use Rattle.std.specs.declared.option.Option.the-variants.{Some, None}
 use Rattle.std.specs.shelf.Lists.{All}
 use Rattle.node.specs.Named.{Named}
-use Rattle.node.specs.Text.{readable}
 
 -- from 0x21 to 0x7E, and no colon, `[` or `]`
 abbrev pub HostByte : ℕ → Type 0
@@ -29,8 +28,8 @@ abbrev pub Answer : List ℕ → Option Named → Type 0
 Answer text None = (host : List ℕ) (port : ℕ) → Readable text host port → ⊥
 Answer text (Some n) = Readable text (n .host) (n .port)
 
--- `readable` finds each reading, and nothing else, so that a text has one reading at most
-pub record Readings : Type 0 where
-  pub right : (text : List ℕ) (n : Named) → readable text ≡ Some n → Readable text (n .host) (n .port)
-  pub complete : (text : List ℕ) (n : Named) → Readable text (n .host) (n .port) → readable text ≡ Some n
+-- a reader that finds each reading, and nothing else, so that a text has one reading at most
+pub record Readings (read : List ℕ → Option Named) : Type 0 where
+  pub right : (text : List ℕ) (n : Named) → read text ≡ Some n → Readable text (n .host) (n .port)
+  pub complete : (text : List ℕ) (n : Named) → Readable text (n .host) (n .port) → read text ≡ Some n
   pub single : (text : List ℕ) (m n : Named) → Readable text (m .host) (m .port) → Readable text (n .host) (n .port) → m ≡ n

@@ -9,8 +9,8 @@ use lib.Dec.{eqb}
 use lib.ListN.{length, take, drop, replicate, length-drop, take-append-drop}
 use Rattle.std.proofs.shelf.Lists.{length-take-le}
 use Rattle.std.proofs.shelf.Tests.{and-parts, eqb-true, leb-true}
-use Rattle.node.specs.Address.{host-of}
-use Rattle.node.specs.Host.{host-form, all-zero, formed}
+use Rattle.node.specs.Address.{host-of, name-of}
+use Rattle.node.specs.Host.{host-form, all-zero, padded-host}
 use Rattle.node.specs.declared.address.NodeAddress.{NodeAddress}
 
 zeros-are : (zs : List ℕ) → all-zero zs ≡ true → zs ≡ replicate (length zs) 0
@@ -22,7 +22,7 @@ record Formed (bytes : List ℕ) (n : ℕ) : Type 0 where
   padded : bytes ≡ take n bytes ++ replicate (64 - n) 0
   long : n ≡ length (take n bytes)
 
-formed-parts : (bytes : List ℕ) (n : ℕ) → formed bytes n ≡ true → Formed bytes n
+formed-parts : (bytes : List ℕ) (n : ℕ) → padded-host bytes n ≡ true → Formed bytes n
 formed-parts bytes n h =
     let p = and-parts _ _ h in
     let q = and-parts _ _ (p .0) in
@@ -49,5 +49,8 @@ same-address a b same port =
       host = host i;
       len = len i;
       port = port i;
-      formed = isProp→PathP (λ k. formed (host k) (len k) ≡ true) (λ k. Bool-set _ _) (a .formed) (b .formed) i;
+      formed = isProp→PathP (λ k. padded-host (host k) (len k) ≡ true) (λ k. Bool-set _ _) (a .formed) (b .formed) i;
     }
+
+pub same-name : (a b : NodeAddress) → name-of a ≡ name-of b → a ≡ b
+same-name a b e = same-address a b (ap (λ n. n .host) e) (ap (λ n. n .port) e)

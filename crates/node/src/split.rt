@@ -4,7 +4,7 @@ ghost use lib.ListN.{length};
 ghost use Rattle.std.specs.Options.{mapped};
 ghost use Rattle.std.specs.Slices.{found};
 ghost use Rattle.node.specs.Named.{parted};
-ghost use Rattle.node.specs.Readable.{Answer};
+ghost use Rattle.node.specs.Readable.{Answer, Readings};
 ghost use Rattle.node.specs.Text.{plain, host-len, port-behind, readable};
 use crate::host::LONGEST;
 use crate::host::is_visible;
@@ -56,4 +56,9 @@ pub fn split_node_address(text: &[u8]) -> Option<Split>
     }
     let port = port_after_colon(&text[host..])?;
     Some(Split { host, port })
+}
+
+pub fn readable_is_the_rule()
+    ensures { λ _. ⌜ Readings readable ⌝ }
+{
 }

@@ -3,3 +3,5 @@ pub mod Lines
 pub mod Numbers
 pub mod Tokens
 pub mod Walks
+pub mod Standings
+pub mod Readings

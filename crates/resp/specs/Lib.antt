@@ -5,3 +5,4 @@ pub mod Value
 pub mod Reading
 pub mod Place
 pub mod Told
+pub mod Standing

@@ -46,15 +46,19 @@ abbrev pub counted : Option ℕ → List ℕ → Option (Read Head)
 counted None rest = read (whole null) rest
 counted (Some n) rest = read (elements n) rest
 
--- the type byte, and what it announces
+-- each type byte, with what it announces
+abbrev pub kinds : List ℕ → List (ℕ × Option (Read Head))
+kinds bs =
+    (43, texted simple-string bs) ∷ (45, texted simple-error bs) ∷ (58, then (line bs) (λ t rest. valued (signed t) rest))
+    ∷ (36, then (size bs) bulk) ∷ (42, then (size bs) counted) ∷ []
+
+abbrev pub announced : ℕ → List (ℕ × Option (Read Head)) → Option (Read Head)
+announced k [] = None
+announced k (x ∷ xs) = cond (eqb k (x .0)) (x .1) (announced k xs)
+
 abbrev pub head : List ℕ → Option (Read Head)
 head [] = None
-head (k ∷ bs) =
-    cond (eqb k 43) (texted simple-string bs)
-    (cond (eqb k 45) (texted simple-error bs)
-    (cond (eqb k 58) (then (line bs) (λ t rest. valued (signed t) rest))
-    (cond (eqb k 36) (then (size bs) bulk)
-    (cond (eqb k 42) (then (size bs) counted) None))))
+head (k ∷ bs) = announced k (kinds bs)
 
 abbrev pub several : (List ℕ → Option (Read Value)) → ℕ → List ℕ → Option (Read Values)
 several one zero bs = read none bs

@@ -5,3 +5,4 @@ pub mod Tokens
 pub mod Walks
 pub mod Standings
 pub mod Readings
+pub mod Stood

@@ -4,14 +4,16 @@ use mathlib.Core.List.{List, [], _∷_, _++_}
 use mathlib.Core.Logic.{_⊎_}
 use mathlib.Core.Path.{_≡_}
 use Prim.Native.Nat.{ℕ, _≤_}
-use lib.Chars.{codes}
-use lib.ListN.{length}
-use Rattle.std.specs.declared.option.Option.the-variants.{Some}
+use lib.ListN.{length, take}
+use Rattle.std.specs.declared.option.Option.{Option}
+use Rattle.std.specs.declared.option.Option.the-variants.{Some, None}
 use Rattle.resp.specs.Line.{breaks}
 use Rattle.resp.specs.Number.{natural, signed}
 use Rattle.resp.specs.Read.{read}
 use Rattle.resp.specs.Reading.{value}
-use Rattle.resp.specs.Value.{Value, simple-string, simple-error, integer, bulk-string, null, array, Values, none, more, count, depth}
+use Rattle.resp.specs.Told.{text-at}
+use Rattle.resp.specs.Value.{Value, simple-string, simple-error, integer, bulk-string, null, array, Values, none, more, count, depth, first-error}
+use Rattle.resp.specs.declared.place.Walk.{Walk}
 
 abbrev pub crlf : List ℕ
 crlf = 13 ∷ 10 ∷ []
@@ -46,3 +48,8 @@ Complete = (d : ℕ) (front rest : List ℕ) (v : Value) → Stands v front → 
 -- no bytes begin with two values
 abbrev pub Unambiguous : Type 0
 Unambiguous = (v w : Value) (a b r s : List ℕ) → Stands v a → Stands w b → a ++ r ≡ b ++ s → (v ≡ w) × (a ≡ b) × (r ≡ s)
+
+-- what a reader told: a value that stands there, or that none does
+abbrev pub Stood : ℕ → List ℕ → Option Walk → Type 0
+Stood d bs None = (v : Value) (front rest : List ℕ) → bs ≡ front ++ rest → Stands v front → depth v ≤ d → ⊥
+Stood d bs (Some w) = (v : Value) × Stands v (take (w .len) bs) × (depth v ≤ d) × (first-error v ≡ text-at bs (w .error))

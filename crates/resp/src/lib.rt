@@ -1,5 +1,5 @@
 mod line;
-mod number;
-mod place;
-mod token;
-mod walk;
+pub mod number;
+pub mod place;
+pub mod token;
+pub mod value;

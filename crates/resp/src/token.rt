@@ -96,7 +96,7 @@ fn array(rest: &[u8]) -> Option<Token>
 }
 
 // What stands at the front of `bytes`: a value that is whole, or the head of an array.
-pub fn token(bytes: &[u8]) -> Option<Token>
+pub fn read(bytes: &[u8]) -> Option<Token>
     ensures within { λ r. ⌜ Within (now (bytes .entry)) r ⌝ }
     ensures value { λ r. ⌜ told (now (bytes .entry)) r ≡ headOf (now (bytes .entry)) ⌝ }
 {

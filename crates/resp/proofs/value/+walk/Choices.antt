@@ -4,7 +4,7 @@ use lib.ListN.{length, drop}
 use Rattle.resp.specs.Reading.{several, value}
 use Rattle.resp.specs.Told.{seen, text-at, Errs}
 use Rattle.resp.proofs.Walks.{all-seen, joined}
-use Rattle.resp.proofs.walk.+walk.Given as given
+use Rattle.resp.proofs.value.+walk.Given as given
 
 abbrev pub μ-walk : given.MeasureT-walk
 μ-walk l = l .depth

@@ -1,12 +1,13 @@
 ghost use mathlib.Core.Path.{_≡_};
 ghost use Prim.Native.Nat.{_-_, _^_};
 ghost use Rattle.resp.specs.Reading.{value as valueOf};
+ghost use Rattle.resp.specs.Standing.{Stood, Unambiguous};
 ghost use Rattle.resp.specs.Told.{moved, seen, told-walk, Errs, Walked};
 ghost use Rattle.resp.specs.Value.{or-else};
 use crate::place::Head;
 use crate::place::Place;
 use crate::place::Walk;
-use crate::token::token;
+use crate::token;
 
 // The first of two errors, of which the later one was found `by` bytes further on.
 fn first_of(error: Option<Place>, later: Option<Place>, by: usize) -> Option<Place>
@@ -22,12 +23,11 @@ fn first_of(error: Option<Place>, later: Option<Place>, by: usize) -> Option<Pla
     }
 }
 
-// One value at the front of `bytes`, with arrays nested at most `depth` deep.
-pub fn walk(bytes: &[u8], depth: u32) -> Option<Walk>
+fn walk(bytes: &[u8], depth: u32) -> Option<Walk>
     ensures within { λ r. ⌜ Walked (now (bytes .entry)) r ⌝ }
     ensures value { λ r. ⌜ told-walk (now (bytes .entry)) r ≡ seen (valueOf depth (now (bytes .entry))) ⌝ }
 {
-    let token = token(bytes)?;
+    let token = token::read(bytes)?;
     let mut len = token.len;
     match token.head {
         Head::Array(count) => {
@@ -48,4 +48,15 @@ pub fn walk(bytes: &[u8], depth: u32) -> Option<Walk>
         }),
         Head::Simple(_) | Head::Integer(_) | Head::Bulk(_) | Head::Nil => Some(Walk { len, error: None }),
     }
+}
+
+// One value at the front of `bytes`, with arrays nested at most `depth` deep: how many bytes it
+// takes, and the text of the first error in it.
+pub fn read(bytes: &[u8], depth: u32) -> Option<Walk>
+    ensures within { λ r. ⌜ Walked (now (bytes .entry)) r ⌝ }
+    ensures value { λ r. ⌜ told-walk (now (bytes .entry)) r ≡ seen (valueOf depth (now (bytes .entry))) ⌝ }
+    ensures stands { λ r. ⌜ Stood depth (now (bytes .entry)) r ⌝ }
+    ensures once { λ _. ⌜ Unambiguous ⌝ }
+{
+    walk(bytes, depth)
 }

@@ -6,7 +6,7 @@ use Rattle.std.proofs.shelf.Lists.{length-drop, take-rest}
 use Rattle.resp.specs.Reading.{value}
 use Rattle.resp.specs.Told.{seen, Errs, Lies}
 use Rattle.resp.proofs.Walks.{none-seen, error-told, quiet-told, array-told, turn-more, turn-stops, errs-more}
-use Rattle.resp.proofs.walk.+walk.Needs as need
+use Rattle.resp.proofs.value.+walk.Needs as need
 
 pub returns-in-Break-token : need.returns-in-Break-token
 returns-in-Break-token t c =

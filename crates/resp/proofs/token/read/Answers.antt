@@ -1,6 +1,6 @@
 use native.Mathlib.Omega.{arith}
 use Rattle.resp.proofs.Tokens.{all-within, all-told}
-use Rattle.resp.proofs.token.token.Needs as need
+use Rattle.resp.proofs.token.read.Needs as need
 
 pub returns-in-43 : need.returns-in-43
 returns-in-43 c =

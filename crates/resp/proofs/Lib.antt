@@ -6,3 +6,5 @@ pub mod Walks
 pub mod Standings
 pub mod Readings
 pub mod Stood
+pub mod Commands
+pub mod Framed

@@ -86,7 +86,7 @@ module _ (one : List ℕ → Option (Read Value)) (k : ℕ) where
       go (Some x) f = let z : _≡_ {A = ℕ} 0 1 = cc in absurd (omega arith)
 
 -- a place further on
-part-moved : (bs : List ℕ) (n : ℕ) (p : Place) → part (drop n bs) p ≡ part bs (record { start = n + p .start; end = n + p .end })
+pub part-moved : (bs : List ℕ) (n : ℕ) (p : Place) → part (drop n bs) p ≡ part bs (record { start = n + p .start; end = n + p .end })
 part-moved bs n p =
     let same : n + p .end - (n + p .start) ≡ p .end - p .start = omega arith in
     rw (same, drop-drop (p .start) n bs)

@@ -6,3 +6,4 @@ pub mod Reading
 pub mod Place
 pub mod Told
 pub mod Standing
+pub mod Command

@@ -1,4 +1,5 @@
 mod line;
+pub mod command;
 pub mod number;
 pub mod place;
 pub mod token;

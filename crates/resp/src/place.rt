@@ -37,3 +37,10 @@ pub struct Walk {
     pub len: usize,
     pub error: Option<Place>,
 }
+
+// A command: the number of its words, and where the first stands.
+#[derive(Clone, Copy)]
+pub struct Command {
+    pub count: usize,
+    pub first: Place,
+}

@@ -1,13 +1,12 @@
 -- What the form of 64 bytes says of them.
-use mathlib.Core.Bool.{Bool, true, false, _&&_}
-use mathlib.Core.List.{List, [], _∷_, _++_}
-use mathlib.Core.Path.{_≡_, refl, sym, ap, _∙_}
+use mathlib.Core.Bool.{true, false, _&&_}
+use mathlib.Core.List.{List, _++_}
+use mathlib.Core.Path.{_≡_, refl, ap, _∙_}
 use Prim.Native.Nat.{ℕ, zero, suc, _+_, _-_, _<_, _≤_}
 use native.Mathlib.Omega.{arith}
-use lib.Dec.{eqb, leb}
-use lib.ListN.{length, getD, take, drop, replicate, length-append, length-drop, length-replicate, take-append-drop}
-use Rattle.std.proofs.shelf.Lists.{length-take-le, at-drop-more, at-drop-all, take-at, drop-at, drop-replicate}
-use Rattle.std.proofs.shelf.Tests.{and-parts, and-from, eqb-true, eq-eqb, leb-true, le-leb}
+use lib.ListN.{length, getD, take, drop, replicate, length-append, length-replicate}
+use Rattle.std.proofs.shelf.Lists.{at-drop-more, at-drop-all, take-at, drop-at, drop-replicate}
+use Rattle.std.proofs.shelf.Tests.{and-parts, and-from, eq-eqb, leb-true, le-leb}
 use Rattle.node.specs.Host.{visible, all-visible, host-form, all-zero, padded-host}
 
 -- `all-visible`, one byte at a time

@@ -5,3 +5,4 @@ pub mod Readings
 pub mod Splits
 pub mod Named
 pub mod Compared
+pub mod Examples

@@ -1,7 +1,7 @@
 -- An address made of what a text reads as.
-use mathlib.Core.Bool.{true, _&&_}
+use mathlib.Core.Bool.{true}
 use mathlib.Core.List.{List, [], _∷_}
-use mathlib.Core.Path.{_≡_, refl, sym, ap, _∙_}
+use mathlib.Core.Path.{_≡_, refl, ap, _∙_}
 use Prim.Native.Nat.{ℕ}
 use lib.Dec.{leb}
 use lib.ListN.{length, take}
@@ -24,7 +24,7 @@ visible-all [] h = refl
 visible-all (b ∷ bs) h =
     and-from (visible b) (all-visible bs) (and-from (leb 0x21 b) (leb b 0x7E) (le-leb 0x21 b (h .0 .0)) (le-leb b 0x7E (h .0 .1))) (visible-all bs (h .1))
 
-readable-host : (text host : List ℕ) (port : ℕ) → Readable text host port → host-form host ≡ true
+pub readable-host : (text host : List ℕ) (port : ℕ) → Readable text host port → host-form host ≡ true
 readable-host text host port h =
     and-from _ _ (and-from (leb 1 (length host)) (leb (length host) 64) (le-leb _ _ (h .some)) (le-leb _ _ (h .short))) (visible-all host (h .plain))
 

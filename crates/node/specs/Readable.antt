@@ -14,7 +14,7 @@ use Rattle.node.specs.Named.{Named}
 abbrev pub HostByte : ℕ → Type 0
 HostByte b = (0x21 ≤ b) × (b ≤ 0x7E) × (b ≢ 0x3A) × (b ≢ 0x5B) × (b ≢ 0x5D)
 
--- the text is the host, one colon, and the port in decimal
+-- the text is the host, one colon, and the port in decimal, which `decimal` writes with no sign and no leading zero
 pub record Readable (text host : List ℕ) (port : ℕ) : Type 0 where
   pub written : text ≡ host ++ (0x3A ∷ decimal port)
   pub some : 1 ≤ length host

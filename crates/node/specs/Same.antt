@@ -1,9 +1,9 @@
 -- An address is its host and its port, and nothing more.
-use mathlib.Core.Bool.{true, Bool-set, _&&_}
+use mathlib.Core.Bool.{true, Bool-set}
 use mathlib.Core.HLevel.{isProp→PathP}
 use mathlib.Core.List.{List, [], _∷_, _++_}
 use mathlib.Core.Path.{_≡_, refl, sym, ap, _∙_}
-use Prim.Native.Nat.{ℕ, _-_, _≤_}
+use Prim.Native.Nat.{ℕ, _-_}
 use native.Mathlib.Omega.{arith}
 use lib.Dec.{eqb}
 use lib.ListN.{length, take, drop, replicate, length-drop, take-append-drop}

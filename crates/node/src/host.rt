@@ -5,7 +5,9 @@ ghost use lib.ListN.{length, replicate};
 ghost use Rattle.node.specs.Host.{visible, all-visible, host-form};
 
 const FIRST: u8 = 0x21;
+
 const LAST: u8 = 0x7e;
+
 pub(crate) const LONGEST: usize = 64;
 
 pub(crate) fn is_visible(b: u8) -> bool
@@ -25,14 +27,13 @@ fn are_visible(bytes: &[u8]) -> bool
     true
 }
 
-// Whether the bytes are a host.
 pub(crate) fn is_host(bytes: &[u8]) -> bool
     ensures { λ r. ⌜ r ≡ host-form (now (bytes .entry)) ⌝ }
 {
     1 <= bytes.len() && bytes.len() <= LONGEST && are_visible(bytes)
 }
 
-// The bytes, and zeros behind them.
+// The bytes with zeros behind them.
 pub(crate) fn padded(bytes: &[u8]) -> [u8; LONGEST]
     requires { ⌜ length (now bytes) ≤ 64 ⌝ }
     ensures { λ r. ⌜ r ≡ now (bytes .entry) ++ replicate (64 - length (now (bytes .entry))) 0 ⌝ }

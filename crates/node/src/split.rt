@@ -10,20 +10,21 @@ use crate::host::LONGEST;
 use crate::host::is_visible;
 use crate::port::port;
 
-// The host is the first `host` bytes of the text.
+// Where a text splits: its first `host` bytes are the host.
 #[derive(Clone, Copy)]
 pub struct Split {
     pub host: usize,
     pub port: u16,
 }
 
+// Whether the byte may stand in the host of a text.
 fn is_plain(b: u8) -> bool
     ensures { λ r. ⌜ r ≡ plain b ⌝ }
 {
     is_visible(b) && b != b':' && b != b'[' && b != b']'
 }
 
-// How many bytes at the front are plain.
+// How far a host would go.
 fn plain_len(text: &[u8]) -> usize
     ensures within { λ r. ⌜ r ≤ length (now (text .entry)) ⌝ }
     ensures value { λ r. ⌜ r ≡ host-len (now (text .entry)) ⌝ }
@@ -45,6 +46,8 @@ fn port_after_colon(text: &[u8]) -> Option<u16>
     }
 }
 
+// The host and the port that the text reads as: `host:port`, with no other colon and no bracket, and
+// with the port from 1 to 65535 in digits that begin with no zero.
 pub fn split_node_address(text: &[u8]) -> Option<Split>
     ensures within { λ r. ⌜ found r (λ s. s .host ≤ length (now (text .entry))) ⌝ }
     ensures value { λ r. ⌜ mapped (parted (now (text .entry))) r ≡ readable (now (text .entry)) ⌝ }
@@ -58,7 +61,8 @@ pub fn split_node_address(text: &[u8]) -> Option<Split>
     Some(Split { host, port })
 }
 
+// A theorem, and nothing to run: `readable` finds what the rule says and nothing else, so that no text
+// has two readings.
 pub fn readable_is_the_rule()
     ensures { λ _. ⌜ Readings readable ⌝ }
-{
-}
+{}

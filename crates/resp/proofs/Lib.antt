@@ -8,3 +8,5 @@ pub mod Readings
 pub mod Stood
 pub mod Commands
 pub mod Framed
+pub mod Numerals
+pub mod Writings

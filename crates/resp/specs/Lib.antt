@@ -7,3 +7,4 @@ pub mod Place
 pub mod Told
 pub mod Standing
 pub mod Command
+pub mod Writing

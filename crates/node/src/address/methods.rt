@@ -12,6 +12,7 @@ use crate::split::Split;
 use crate::split::split_node_address;
 
 impl NodeAddress {
+    // The address with this host and port, if the host is 1 to 64 bytes from 0x21 to 0x7E.
     pub fn new(host: &[u8], port: u16) -> Option<NodeAddress>
         ensures form { λ r. ⌜ isSome r ≡ host-form (now (host .entry)) ⌝ }
         ensures value { λ r. ⌜ found r (λ a. (host-of a ≡ now (host .entry)) × (a .port ≡ port)) ⌝ }
@@ -26,6 +27,7 @@ impl NodeAddress {
         })
     }
 
+    // The address that the text reads as.
     pub fn parse(text: &[u8]) -> Option<NodeAddress>
         ensures value { λ r. ⌜ mapped name-of r ≡ readable (now (text .entry)) ⌝ }
         ensures answer { λ r. ⌜ Answer (now (text .entry)) (mapped name-of r) ⌝ }

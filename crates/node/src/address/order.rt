@@ -32,7 +32,8 @@ pub impl Ord for NodeAddress as NodeAddressOrd {
     }
 }
 
+// A theorem, and nothing to run: of any two addresses exactly one is so, that the first is below, that
+// they are the same, or that the second is below.
 pub fn order_is_total()
     ensures { λ _. ⌜ StrictTotal Below ⌝ }
-{
-}
+{}

@@ -1,22 +1,16 @@
-use mathlib.Core.List.{List}
-use mathlib.Core.Path.{_≡_, sym, _∙_}
+use mathlib.Core.Logic.{⊎-elim}
 use Rattle.std.proofs.shelf.Lists.{take-rest}
 use Rattle.std.specs.declared.option.Option.the-variants.{Some, None}
 use Rattle.node.specs.Named.{parted}
-use Rattle.node.specs.Text.{readable}
 use Rattle.node.proofs.Splits.{right-answer, too-short, too-long, by-port}
 use Rattle.node.proofs.split.split_node_address.Needs as need
-use Rattle.node.proofs.split.split_node_address.Needs.{then-host-lt1·by·then-host-lt1, then-host-lt1·by·else-host-lt1·then-host-gt-LONGEST}
 
 pub returns-then-host-lt1 : need.returns-then-host-lt1
 returns-then-host-lt1 c =
     let text = c .args .text .now in
     let n = c .plain-len-host .result in
     let is = c .plain-len-host .ensures .value in
-    let e : None ≡ readable text = elim (c .then-host-lt1 .came) [
-      then-host-lt1·by·then-host-lt1 w ↦ too-short text n is (w .if-host-lt1 .taken)
-    | then-host-lt1·by·else-host-lt1·then-host-gt-LONGEST w ↦ too-long text n is (w .if-host-gt-LONGEST .taken)
-    ] in
+    let e = ⊎-elim (too-short text n is) (λ h. too-long text n is (h .1)) (c .then-host-lt1 .either) in
     record { within = tt; value = e; answer = right-answer text None e }
 
 pub returns-in-Break-port : need.returns-in-Break-port

@@ -1,0 +1,3 @@
+mod server_error;
+
+pub use server_error::ServerErrorKind;

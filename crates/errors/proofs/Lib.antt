@@ -1,1 +1,3 @@
 pub mod Named
+pub mod Spans
+pub mod Nodes

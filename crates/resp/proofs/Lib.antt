@@ -1,4 +1,5 @@
 pub mod Shared
+pub mod Parts
 pub mod Lines
 pub mod Numbers
 pub mod Tokens

@@ -1,8 +1,22 @@
+ghost use mathlib.Core.Path.{_≡_};
+ghost use Rattle.resp.specs.Told.{part};
+
 // A part of some bytes: those from `start` up to below `end`.
 #[derive(Clone, Copy)]
 pub struct Place {
     pub start: usize,
     pub end: usize,
+}
+
+impl Place {
+    // The bytes at the place, as far as there are any.
+    pub fn text(self, bytes: &[u8]) -> &[u8]
+        ensures { λ r. ⌜ now r ≡ part (now (bytes .entry)) self ⌝ }
+    {
+        let end = self.end.min(bytes.len());
+        let start = self.start.min(end);
+        &bytes[start..end]
+    }
 }
 
 // What stands at the front of some bytes: a value that is whole, or the head of an array.

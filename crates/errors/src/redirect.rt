@@ -1,0 +1,55 @@
+ghost use mathlib.Core.Path.{_≡_};
+ghost use lib.ListN.{length};
+ghost use Rattle.errors.specs.Redirects.{small as smallOf, slot as slotOf, node as nodeOf, Fits, told};
+use crate::words::word;
+use node::split_node_address;
+use resp::number::natural;
+use resp::place::Place;
+
+const LARGEST: u64 = 65535;
+
+// Another node's address in the text of an error: the place of its host, and its port.
+#[derive(Clone, Copy)]
+pub struct Target {
+    pub host: Place,
+    pub port: u16,
+}
+
+// A number up to 65535.
+fn small(n: Option<u64>) -> Option<u64>
+    ensures { λ r. ⌜ r ≡ smallOf n ⌝ }
+{
+    match n {
+        Some(n) if n <= LARGEST => Some(n),
+        _ => None,
+    }
+}
+
+// A slot's number, of which only the form matters: one plus sign is allowed.
+fn slot(text: &[u8]) -> Option<u64>
+    ensures { λ r. ⌜ r ≡ slotOf (now (text .entry)) ⌝ }
+{
+    match text {
+        [b'+', digits @ ..] => small(natural(digits)),
+        _ => small(natural(text)),
+    }
+}
+
+// The address that the second word of an error's detail names, behind a slot's number.
+pub fn redirect_node(detail: &[u8]) -> Option<Target>
+    ensures within { λ r. ⌜ Fits (length (now (detail .entry))) r ⌝ }
+    ensures value { λ r. ⌜ told (now (detail .entry)) r ≡ nodeOf (now (detail .entry)) ⌝ }
+{
+    let first = word(detail, 0);
+    let _slot = slot(first.text(detail))?;
+    let second = word(detail, first.end);
+    let split = split_node_address(second.text(detail))?;
+    let host = Place {
+        start: second.start,
+        end: second.start + split.host,
+    };
+    Some(Target {
+        host,
+        port: split.port,
+    })
+}

@@ -1,3 +1,4 @@
 pub mod Named
 pub mod Spans
 pub mod Nodes
+pub mod Texts

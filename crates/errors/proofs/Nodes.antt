@@ -4,8 +4,8 @@ use mathlib.Core.List.{List, [], _∷_}
 use mathlib.Core.Path.{_≡_, refl, sym, _∙_, ap}
 use Prim.Native.Nat.{ℕ, _+_, _-_, _^_, _≤_, _<_}
 use native.Mathlib.Omega.{arith}
-use lib.ListN.{length, getD, take, drop, length-take}
-use Rattle.std.proofs.shelf.Lists.{take-take, take-rest}
+use lib.ListN.{length, getD, take, drop, length-take, length-drop}
+use Rattle.std.proofs.shelf.Lists.{take-take, take-rest, drop-take, drop-drop}
 use Rattle.std.proofs.shelf.Ways.{tells}
 use Rattle.std.specs.declared.option.Option.{Option}
 use Rattle.std.specs.declared.option.Option.the-variants.{Some, None}
@@ -15,8 +15,10 @@ use Rattle.node.specs.declared.split.Split.{Split}
 use Rattle.resp.specs.Number.{natural, below}
 use Rattle.resp.specs.Told.{part, Inside}
 use Rattle.resp.specs.declared.place.Place.{Place}
-use Rattle.errors.specs.Redirects.{small, slot, behind-slot, node, told, Fits}
-use Rattle.errors.specs.Words.{first-word, behind-word}
+use Rattle.errors.specs.Redirection.{small, slot, behind-slot, node, sends, sent-to, node-in, redirect, told, Fits}
+use Rattle.errors.specs.Codes.{kind}
+use Rattle.errors.specs.Words.{code-text, detail-text, first-word, behind-word}
+use Rattle.errors.specs.declared.server_error.ServerErrorKind.{ServerErrorKind}
 
 small-below : (o : Option ℕ) → small (below (2 ^ 64) o) ≡ small o
 small-below None = refl
@@ -51,3 +53,31 @@ module _ (detail : List ℕ) (first second : Place) (s : ℕ) (split : Split)
       ap (λ h. Some (record { host = h; port = split .port })) (host-part detail second (split .host) within)
       ∙ is-split ∙ ap readable (is-second ∙ ap first-word rest)
       ∙ ap (λ o. behind-slot o (readable (first-word (behind-word detail)))) (is-slot ∙ ap slot is-first)
+
+-- a place inside a part
+inner-part : (bs : List ℕ) (d p : Place) → Inside (length (part bs d)) p → part (part bs d) p ≡ part bs (record { start = d .start + p .start; end = d .start + p .end })
+inner-part bs d p inside =
+    let k = d .end - d .start in
+    let xs = drop (d .start) bs in
+    let long = length-take k xs in
+    let split : p .start + (k - p .start) ≡ k = omega arith in
+    let wide : d .start + p .end - (d .start + p .start) ≡ p .end - p .start = omega arith in
+    ap (λ j. take (p .end - p .start) (drop (p .start) (take j xs))) (sym split)
+    ∙ ap (take (p .end - p .start)) (drop-take (p .start) (k - p .start) xs)
+    ∙ take-take (p .end - p .start) (k - p .start) (drop (p .start) xs) (omega arith)
+    ∙ ap (take (p .end - p .start)) (drop-drop (p .start) (d .start) bs)
+    ∙ ap (λ n. take n (drop (d .start + p .start) bs)) (sym wide)
+
+module _ (text : List ℕ) (d p : Place) (port : ℕ) (k : ServerErrorKind)
+    (whole : Inside (length text) d)
+    (inside : Inside (length (part text d)) p)
+    (is-kind : Some k ≡ kind (code-text text))
+    (is-detail : Some (part text d) ≡ detail-text text)
+    (is-node : Some (record { host = part (part text d) p; port = port }) ≡ node (part text d)) where
+  pub sent-fits : (d .start + p .start ≤ d .start + p .end) × (d .start + p .end ≤ length text)
+  sent-fits = omega (arith, length-take (d .end - d .start) (drop (d .start) text), length-drop (d .start) text)
+
+  pub sent-told : sends k (record { host = part text (record { start = d .start + p .start; end = d .start + p .end }); port = port }) ≡ redirect text
+  sent-told =
+      ap (λ h. sends k (record { host = h; port = port })) (sym (inner-part text d p inside))
+      ∙ ap (sent-to (Some k)) is-node ∙ ap (λ o. sent-to (Some k) (node-in o)) is-detail ∙ ap (λ o. sent-to o (node-in (detail-text text))) is-kind

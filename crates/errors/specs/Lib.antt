@@ -1,5 +1,5 @@
 pub mod Codes
 pub mod Words
-pub mod Redirects
+pub mod Redirection
 pub mod Refusals
 pub mod Retries

@@ -2,10 +2,9 @@ ghost use mathlib.Core.Path.{_≡_};
 ghost use Rattle.errors.specs.Refusals.{number as numberOf, kind as kindOf, dropped, denied};
 ghost use Rattle.errors.specs.Retries.{method};
 use crate::server_error::ServerErrorKind;
-use crate::server_error::ServerErrorKindPartialEq;
 
 // The kinds of errors that a user of the client meets.
-#[derive(Clone, Copy, PartialEq)]
+#[derive(Clone, Copy)]
 pub enum ErrorKind {
     // An answer is not one value of the protocol.
     Parse,
@@ -24,7 +23,7 @@ pub enum ErrorKind {
 }
 
 // What a retry does first.
-#[derive(Clone, Copy, PartialEq)]
+#[derive(Clone, Copy)]
 pub enum RetryMethod {
     // Replace the link, which is no longer of use.
     Reconnect,
@@ -45,7 +44,7 @@ pub enum RetryMethod {
 }
 
 // How the network fails.
-#[derive(Clone, Copy, PartialEq)]
+#[derive(Clone, Copy)]
 pub enum NetworkFault {
     // The connection was reset, or never came about.
     Dropped,
@@ -58,7 +57,7 @@ pub enum NetworkFault {
 }
 
 // Why a call is refused: the questions that were answered with no, in the order in which they are asked.
-#[derive(Clone, Copy, PartialEq)]
+#[derive(Clone, Copy)]
 pub enum Refusal {
     // 1: not 1 to 8 readable seeds.
     Seeds,

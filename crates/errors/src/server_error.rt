@@ -1,9 +1,15 @@
 ghost use mathlib.Core.Path.{_≡_};
+ghost use lib.ListN.{length};
 ghost use Rattle.std.specs.shelf.Text.{sameBytes};
+ghost use Rattle.resp.specs.Told.{part, text-at, Errs};
 ghost use Rattle.errors.specs.Codes.{code as codeOf, kind as kindOf};
+ghost use Rattle.errors.specs.Words.{code-text, detail-text};
+use crate::words::Run;
+use crate::words::span;
+use resp::place::Place;
 
 // The kinds of errors that a server answers with, each by its code.
-#[derive(Clone, Copy, PartialEq)]
+#[derive(Clone, Copy)]
 pub enum ServerErrorKind {
     // The command failed, or a general error.
     ResponseError,
@@ -90,5 +96,42 @@ impl ServerErrorKind {
             }
         }
         None
+    }
+}
+
+// A server error by its text: its kind, if the code is known, and the places of its code and its detail.
+#[derive(Clone, Copy)]
+pub struct ServerError {
+    pub kind: Option<ServerErrorKind>,
+    pub code: Place,
+    pub detail: Option<Place>,
+}
+
+impl ServerError {
+    pub fn read(text: &[u8]) -> ServerError
+        ensures kind { λ r. ⌜ r .kind ≡ kindOf (code-text (now (text .entry))) ⌝ }
+        ensures code { λ r. ⌜ part (now (text .entry)) (r .code) ≡ code-text (now (text .entry)) ⌝ }
+        ensures detail { λ r. ⌜ text-at (now (text .entry)) (r .detail) ≡ detail-text (now (text .entry)) ⌝ }
+        ensures within { λ r. ⌜ Errs (length (now (text .entry))) (r .detail) ⌝ }
+    {
+        let end = span(text, Run::Code);
+        let code = Place { start: 0, end };
+        let kind = ServerErrorKind::from_code(code.text(text));
+        let len = text.len();
+        if end == len {
+            return ServerError {
+                kind,
+                code,
+                detail: None,
+            };
+        }
+        ServerError {
+            kind,
+            code,
+            detail: Some(Place {
+                start: end + 1,
+                end: len,
+            }),
+        }
     }
 }

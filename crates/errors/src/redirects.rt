@@ -1,6 +1,8 @@
 ghost use mathlib.Core.Path.{_≡_};
 ghost use lib.ListN.{length};
-ghost use Rattle.errors.specs.Redirects.{small as smallOf, slot as slotOf, node as nodeOf, Fits, told};
+ghost use Rattle.errors.specs.Redirection.{small as smallOf, slot as slotOf, node as nodeOf, redirect, Fits, told, Sends, sent};
+use crate::server_error::ServerError;
+use crate::server_error::ServerErrorKind;
 use crate::words::word;
 use node::split_node_address;
 use resp::number::natural;
@@ -52,4 +54,34 @@ pub fn redirect_node(detail: &[u8]) -> Option<Target>
         host,
         port: split.port,
     })
+}
+
+// Where an error sends its command: for good, or this once, behind ASKING.
+#[derive(Clone, Copy)]
+pub enum Redirect {
+    Moved(Target),
+    Ask(Target),
+}
+
+impl Redirect {
+    // The redirect in the text of an error, with places in that text.
+    pub fn read(text: &[u8]) -> Option<Redirect>
+        ensures within { λ r. ⌜ Sends (length (now (text .entry))) r ⌝ }
+        ensures value { λ r. ⌜ sent (now (text .entry)) r ≡ redirect (now (text .entry)) ⌝ }
+    {
+        let error = ServerError::read(text);
+        let kind = error.kind?;
+        let detail = error.detail?;
+        let node = redirect_node(detail.text(text))?;
+        let host = Place {
+            start: detail.start + node.host.start,
+            end: detail.start + node.host.end,
+        };
+        let port = node.port;
+        match kind {
+            ServerErrorKind::Moved => Some(Redirect::Moved(Target { host, port })),
+            ServerErrorKind::Ask => Some(Redirect::Ask(Target { host, port })),
+            _ => None,
+        }
+    }
 }

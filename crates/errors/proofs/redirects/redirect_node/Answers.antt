@@ -4,9 +4,9 @@ use lib.ListN.{length}
 use Rattle.node.specs.Named.{parted}
 use Rattle.node.specs.Text.{readable}
 use Rattle.std.specs.declared.option.Option.the-variants.{Some}
-use Rattle.errors.specs.Redirects.{slot}
+use Rattle.errors.specs.Redirection.{slot}
 use Rattle.errors.proofs.Nodes.{target-fits, target-told}
-use Rattle.errors.proofs.redirect.redirect_node.Needs as need
+use Rattle.errors.proofs.redirects.redirect_node.Needs as need
 
 pub returns : need.returns
 returns c =

@@ -3,3 +3,4 @@ pub mod Words
 pub mod Redirection
 pub mod Refusals
 pub mod Retries
+pub mod Endings

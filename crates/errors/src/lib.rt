@@ -1,8 +1,12 @@
+mod ending;
 mod redirects;
 mod redis_error;
 mod server_error;
 mod words;
 
+pub use ending::Answer;
+pub use ending::DEPTH;
+pub use ending::Ending;
 pub use redirects::Redirect;
 pub use redirects::Target;
 pub use redirects::redirect_node;

@@ -4,3 +4,5 @@ pub mod Redirection
 pub mod Refusals
 pub mod Retries
 pub mod Endings
+pub mod Examples
+pub mod Names

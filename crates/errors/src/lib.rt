@@ -1,4 +1,5 @@
 mod ending;
+mod names;
 mod redirects;
 mod redis_error;
 mod server_error;
@@ -9,6 +10,7 @@ pub use ending::DEPTH;
 pub use ending::Ending;
 pub use redirects::Redirect;
 pub use redirects::Target;
+pub use redirects::redirect_examples;
 pub use redirects::redirect_node;
 pub use redis_error::ErrorKind;
 pub use redis_error::NetworkFault;

@@ -1,9 +1,16 @@
 ghost use mathlib.Core.Path.{_≡_};
 ghost use lib.ListN.{length};
-ghost use Rattle.errors.specs.Redirection.{small as smallOf, slot as slotOf, node as nodeOf, redirect, Fits, told, Sends, sent};
+ghost use Rattle.node.specs.Address.{name-of};
+ghost use Rattle.node.specs.Host.{host-form};
+ghost use Rattle.resp.specs.Told.{part};
+ghost use Rattle.std.specs.Options.{isSome};
+ghost use Rattle.std.specs.Slices.{found};
+ghost use Rattle.errors.specs.Redirection.{small as smallOf, slot as slotOf, node as nodeOf, redirect, Fits, told, named, Sends, sent};
+ghost use Rattle.errors.specs.Examples.{Redirect-examples};
 use crate::server_error::ServerError;
 use crate::server_error::ServerErrorKind;
 use crate::words::word;
+use node::NodeAddress;
 use node::split_node_address;
 use resp::number::natural;
 use resp::place::Place;
@@ -15,6 +22,16 @@ const LARGEST: u64 = 65535;
 pub struct Target {
     pub host: Place,
     pub port: u16,
+}
+
+impl Target {
+    // The address that the target names in `text`: the host's bytes are copied beside the port.
+    pub fn address(self, text: &[u8]) -> Option<NodeAddress>
+        ensures form { λ r. ⌜ isSome r ≡ host-form (part (now (text .entry)) (self .host)) ⌝ }
+        ensures value { λ r. ⌜ found r (λ a. name-of a ≡ named (now (text .entry)) self) ⌝ }
+    {
+        NodeAddress::new(self.host.text(text), self.port)
+    }
 }
 
 // A number up to 65535.
@@ -85,3 +102,8 @@ impl Redirect {
         }
     }
 }
+
+// A theorem, and nothing to run: the worked examples of redirects.
+pub fn redirect_examples()
+    ensures { λ _. ⌜ Redirect-examples ⌝ }
+{}

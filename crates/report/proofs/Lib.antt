@@ -1,2 +1,3 @@
 pub mod Showing
 pub mod Adding
+pub mod Entries

@@ -1,7 +1,8 @@
 -- What a report says of an entry of a tape: how it ends, and of a server error its code, the retry method and the redirect.
 use mathlib.Core.List.{List, [], _∷_, _++_}
-use Prim.Native.Nat.{ℕ}
+use Prim.Native.Nat.{ℕ, zero, suc}
 use lib.Chars.{codes}
+use lib.ListN.{length}
 use Rattle.std.specs.Written.{decimal}
 use Rattle.std.specs.declared.option.Option.{Option}
 use Rattle.std.specs.declared.option.Option.the-variants.{Some, None}
@@ -13,7 +14,9 @@ use Rattle.errors.specs.Words.{code-text}
 use Rattle.errors.specs.declared.ending.Ending.{Ending}
 use Rattle.errors.specs.declared.ending.Ending.the-variants as endings
 use Rattle.errors.specs.declared.redis_error.RetryMethod.{RetryMethod}
+use Rattle.resp.specs.Read.{Read}
 use Rattle.report.specs.Shown.{all-shown, shown}
+use Rattle.tape.specs.Entries.{Played, entry}
 use Rattle.tape.specs.declared.entry.Kind.{Kind}
 use Rattle.tape.specs.declared.entry.Kind.the-variants.{Answer, Dropped, Denied, Other}
 
@@ -64,9 +67,23 @@ abbrev pub spaced : List (List ℕ) → List ℕ
 spaced [] = []
 spaced (w ∷ ws) = 32 ∷ (w ++ spaced ws)
 
-abbrev pub entry-line : ℕ → Kind → List ℕ → List ℕ
+unfoldable pub entry-line : ℕ → Kind → List ℕ → List ℕ
 entry-line i k bs =
     codes "entry"
     ++ spaced
       (decimal i ∷ kind-word k ∷ ending-name (entry-ending k bs) ∷ code-word (entry-error k bs) ∷ method-word (retry (refusal (entry-ending k bs)))
         ∷ redirect-word (entry-error k bs) ∷ [])
+
+-- the line of the i-th entry, and those of the entries behind it; what is cut off plays dropped
+abbrev pub played-line : (ℕ → List ℕ → List ℕ) → ℕ → Option (Read Played) → List ℕ
+played-line others i None = entry-line i Dropped [] ++ (10 ∷ [])
+played-line others i (Some x) = entry-line i (x .value .plays) (x .value .bytes) ++ (10 ∷ others (suc i) (x .rest))
+
+-- the lines of a tape from its i-th entry on, of which there are at most so many
+abbrev pub lines : ℕ → ℕ → List ℕ → List ℕ
+lines zero i tape = []
+lines (suc most) i [] = []
+lines (suc most) i (b ∷ bs) = played-line (lines most) i (entry (b ∷ bs))
+
+abbrev pub explained : List ℕ → List ℕ
+explained tape = lines (length tape) 1 tape

@@ -6,11 +6,12 @@ use Rattle.std.specs.Written.{decimal}
 use Rattle.errors.specs.Endings.{refusal, retry}
 use Rattle.errors.specs.Names.{ending-name}
 use Rattle.resp.specs.Told.{text-at}
-use Rattle.report.specs.Explained.{kind-word, entry-ending, entry-error, code-word, method-word, redirect-word, spaced}
+use Rattle.report.specs.Explained.{kind-word, entry-ending, entry-error, code-word, method-word, redirect-word, spaced, entry-line}
 use Rattle.report.proofs.Adding.{chained, word-as}
-use Rattle.report.proofs.explain.entry_line.Needs as need
+use Rattle.report.proofs.meaning.entry_line.Needs as need
 
 pub returns : need.returns
+unfolding entry-line
 returns c =
     let k = c .args .kind in
     let bs = c .args .bytes .now in

@@ -6,7 +6,7 @@ use Rattle.std.specs.Written.{decimal}
 use Rattle.resp.specs.Told.{part}
 use Rattle.report.specs.Shown.{all-shown, Added}
 use Rattle.report.proofs.Adding.{extended, address-added}
-use Rattle.report.proofs.explain.address.Needs as need
+use Rattle.report.proofs.meaning.address.Needs as need
 
 pub returns : need.returns
 returns c =

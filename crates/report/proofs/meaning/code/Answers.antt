@@ -7,7 +7,7 @@ use Rattle.errors.specs.Words.{code-text}
 use Rattle.report.specs.Explained.{code-word}
 use Rattle.report.specs.Shown.{shown, Added}
 use Rattle.report.proofs.Adding.{added-more}
-use Rattle.report.proofs.explain.code.Needs as need
+use Rattle.report.proofs.meaning.code.Needs as need
 
 pub returns : need.returns
 returns c =

@@ -1,11 +1,11 @@
-ghost use mathlib.Core.List.{_∷_, _++_};
+ghost use mathlib.Core.List.{[], _∷_, _++_};
 ghost use mathlib.Core.Path.{_≡_};
 ghost use Rattle.std.specs.Of.Vec.{vec-items};
 ghost use Rattle.std.specs.Vec.{made};
 ghost use Rattle.errors.specs.Endings.{refusal, retry};
 ghost use Rattle.errors.specs.Redirection.{named};
 ghost use Rattle.resp.specs.Told.{text-at};
-ghost use Rattle.report.specs.Explained.{kind-word, entry-ending, entry-error, code-word, method-word, redirect-word, address-word, entry-line};
+ghost use Rattle.report.specs.Explained.{kind-word, entry-ending, entry-error, code-word, method-word, redirect-word, address-word, entry-line, explained};
 ghost use Rattle.report.specs.Shown.{Added};
 use crate::show::show;
 use crate::show::show_all;
@@ -17,6 +17,7 @@ use errors::Target;
 use resp::place::Place;
 use std::alloc::AllocError;
 use std::alloc::Global;
+use tape::Entry;
 use tape::Kind;
 
 // The most bytes that an entry can hold.
@@ -106,7 +107,7 @@ fn redirect(out: &mut Vec<u8>, heap: Global, bytes: &[u8], error: Option<Place>)
 }
 
 // What the entry of a tape means: `entry INDEX KIND ENDING CODE METHOD REDIRECT`.
-pub fn entry_line(heap: Global, index: u64, kind: Kind, bytes: &[u8]) -> Result<Vec<u8>, AllocError>
+fn entry_line(heap: Global, index: u64, kind: Kind, bytes: &[u8]) -> Result<Vec<u8>, AllocError>
     ensures { λ r. ⌜ made r (λ v. vec-items v ≡ entry-line index kind (now (bytes .entry))) ⌝ }
 {
     let number = index.to_string(heap)?;
@@ -119,5 +120,34 @@ pub fn entry_line(heap: Global, index: u64, kind: Kind, bytes: &[u8]) -> Result<
     code(&mut out, bytes, answer.error)?;
     method(&mut out, answer.ending)?;
     redirect(&mut out, heap, bytes, answer.error)?;
+    Ok(out)
+}
+
+fn line(out: &mut Vec<u8>, heap: Global, index: u64, kind: Kind, bytes: &[u8]) -> Result<(), AllocError>
+    ensures { λ r. ⌜ Added (entry-line index kind (now (bytes .entry)) ++ (10 ∷ [])) (vec-items (now (out .entry))) (vec-items (now (out .exit))) r ⌝ }
+{
+    let text = entry_line(heap, index, kind, bytes)?;
+    out.extend_from_slice(text.as_slice())?;
+    out.push(b'\n')?;
+    Ok(())
+}
+
+// What each entry of the tape means, a line each.
+pub fn explain(heap: Global, tape: &[u8]) -> Result<Vec<u8>, AllocError>
+    ensures { λ r. ⌜ made r (λ v. vec-items v ≡ explained (now (tape .entry))) ⌝ }
+{
+    let mut out = Vec::new(heap);
+    let mut at = 0;
+    let mut index: u64 = 0;
+    while at < tape.len() {
+        let rest = &tape[at..];
+        index += 1;
+        let Some(entry) = Entry::read(rest) else {
+            line(&mut out, heap, index, Kind::Dropped, b"")?;
+            return Ok(out);
+        };
+        line(&mut out, heap, index, entry.kind, entry.bytes.text(rest))?;
+        at += entry.len;
+    }
     Ok(out)
 }

@@ -1,6 +1,6 @@
 ghost use mathlib.Core.Path.{_≡_};
-ghost use Prim.Native.Nat.{_+_, _≤_};
-ghost use lib.ListN.{length};
+ghost use Prim.Native.Nat.{ℕ, _+_, _<_, _≤_};
+ghost use lib.ListN.{length, getD, drop};
 ghost use Rattle.std.specs.Slices.{found};
 ghost use Rattle.resp.specs.Line.{breaks, plain, ended, line as lineOf};
 ghost use Rattle.resp.specs.Place.{cut};
@@ -11,6 +11,34 @@ fn is_break(b: u8) -> bool
     b == b'\r' || b == b'\n'
 }
 
+// The least of some bytes.
+fn least(bytes: &[u8]) -> u8
+    ensures { λ r. ⌜ ((k : ℕ) → k < length (now (bytes .entry)) → r ≤ getD (now (bytes .entry)) k 0) ⌝ }
+{
+    let mut least = u8::MAX;
+    for b in bytes {
+        if *b < least {
+            least = *b;
+        }
+    }
+    least
+}
+
+// How many bytes at the front, in whole blocks, are all above CR, so that none is CR or LF.
+fn plain_blocks(bytes: &[u8]) -> usize
+    ensures within { λ r. ⌜ r ≤ length (now (bytes .entry)) ⌝ }
+    ensures value { λ r. ⌜ plain (now (bytes .entry)) ≡ r + plain (drop r (now (bytes .entry))) ⌝ }
+{
+    let mut at = 0;
+    while bytes.len() - at >= 16 {
+        if least(&bytes[at..at + 16]) <= b'\r' {
+            return at;
+        }
+        at += 16;
+    }
+    at
+}
+
 // How many bytes stand before the first CR or LF.
 pub fn plain_len(bytes: &[u8]) -> usize
     ensures within { λ r. ⌜ r ≤ length (now (bytes .entry)) ⌝ }
@@ -18,6 +46,20 @@ pub fn plain_len(bytes: &[u8]) -> usize
 {
     for (i, b) in bytes.iter().enumerate() {
         if is_break(*b) {
+            return i;
+        }
+    }
+    bytes.len()
+}
+
+// The same for a text, which may be long: first in whole blocks.
+fn long_plain_len(bytes: &[u8]) -> usize
+    ensures within { λ r. ⌜ r ≤ length (now (bytes .entry)) ⌝ }
+    ensures value { λ r. ⌜ r ≡ plain (now (bytes .entry)) ⌝ }
+{
+    let front = plain_blocks(bytes);
+    for i in front..bytes.len() {
+        if is_break(bytes[i]) {
             return i;
         }
     }
@@ -40,5 +82,14 @@ pub fn line(bytes: &[u8]) -> Option<usize>
     ensures value { λ r. ⌜ cut (now (bytes .entry)) r ≡ lineOf (now (bytes .entry)) ⌝ }
 {
     let n = plain_len(bytes);
+    if is_ended(&bytes[n..]) { Some(n) } else { None }
+}
+
+// The same for a text, which may be long.
+pub fn text_line(bytes: &[u8]) -> Option<usize>
+    ensures within { λ r. ⌜ found r (λ n. n + 2 ≤ length (now (bytes .entry))) ⌝ }
+    ensures value { λ r. ⌜ cut (now (bytes .entry)) r ≡ lineOf (now (bytes .entry)) ⌝ }
+{
+    let n = long_plain_len(bytes);
     if is_ended(&bytes[n..]) { Some(n) } else { None }
 }

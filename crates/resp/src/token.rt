@@ -4,6 +4,7 @@ ghost use Rattle.resp.specs.Reading.{head as headOf, minus-one, size as sizeOf
 ghost use Rattle.resp.specs.Told.{told, Within, told-size, Sized};
 use crate::line::is_ended;
 use crate::line::line;
+use crate::line::text_line;
 use crate::number::integer;
 use crate::number::natural;
 use crate::place::Head;
@@ -44,7 +45,7 @@ fn simple_string(rest: &[u8]) -> Option<Token>
     ensures within { λ r. ⌜ Within (43 ∷ now (rest .entry)) r ⌝ }
     ensures value { λ r. ⌜ told (43 ∷ now (rest .entry)) r ≡ headOf (43 ∷ now (rest .entry)) ⌝ }
 {
-    let n = line(rest)?;
+    let n = text_line(rest)?;
     let head = Head::Simple(Place { start: 1, end: n + 1 });
     Some(Token { head, len: n + 3 })
 }
@@ -53,7 +54,7 @@ fn simple_error(rest: &[u8]) -> Option<Token>
     ensures within { λ r. ⌜ Within (45 ∷ now (rest .entry)) r ⌝ }
     ensures value { λ r. ⌜ told (45 ∷ now (rest .entry)) r ≡ headOf (45 ∷ now (rest .entry)) ⌝ }
 {
-    let n = line(rest)?;
+    let n = text_line(rest)?;
     let head = Head::Error(Place { start: 1, end: n + 1 });
     Some(Token { head, len: n + 3 })
 }

@@ -9,17 +9,16 @@ use crate::place::Place;
 use crate::place::Walk;
 use crate::token;
 
-// The first of two errors, of which the later one was found `by` bytes further on.
-fn first_of(error: Option<Place>, later: Option<Place>, by: usize) -> Option<Place>
+// Keeps the first of two errors, of which the later one was found `by` bytes further on.
+fn keep_first(error: &mut Option<Place>, later: Option<Place>, by: usize)
     requires { ⌜ Errs (2 ^ 64 - 1 - by) later ⌝ }
-    ensures { λ r. ⌜ r ≡ or-else error (moved by later) ⌝ }
+    ensures { λ _. ⌜ now (error .exit) ≡ or-else (now (error .entry)) (moved by later) ⌝ }
 {
-    match (error, later) {
-        (None, Some(place)) => Some(Place {
+    if let (None, Some(place)) = (*error, later) {
+        *error = Some(Place {
             start: by + place.start,
             end: by + place.end,
-        }),
-        _ => error,
+        });
     }
 }
 
@@ -37,7 +36,7 @@ fn walk(bytes: &[u8], depth: u32) -> Option<Walk>
             let mut error = None;
             for _i in 0..count {
                 let next = walk(&bytes[len..], depth - 1)?;
-                error = first_of(error, next.error, len);
+                keep_first(&mut error, next.error, len);
                 len += next.len;
             }
             Some(Walk { len, error })

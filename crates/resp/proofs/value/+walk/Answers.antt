@@ -34,8 +34,8 @@ loop-i-again t c =
     (
       omega arith,
       omega (arith, left, found .within .0),
-      rw (c .first-of-error .ensures) (errs-more (length bs) len (c .loop-i .error) (next .error) (c .loop-i .inv .2) (subst (λ n. Errs n (next .error)) left (found .within .1)) (omega arith)),
-      rw (c .first-of-error .ensures) (turn-more (value (c .args .depth - 1)) (c .in-Array .count) (c .loop-i .-i) (c .loop-i-test .taken) bs len (c .loop-i .error) (seen (value (c .args .depth) bs)) (c .loop-i .inv .3) next (found .value)),
+      rw (c .keep-first .ensures) (errs-more (length bs) len (c .loop-i .error) (next .error) (c .loop-i .inv .2) (subst (λ n. Errs n (next .error)) left (found .within .1)) (omega arith)),
+      rw (c .keep-first .ensures) (turn-more (value (c .args .depth - 1)) (c .in-Array .count) (c .loop-i .-i) (c .loop-i-test .taken) bs len (c .loop-i .error) (seen (value (c .args .depth) bs)) (c .loop-i .inv .3) next (found .value)),
     )
 
 pub returns-in-Error : need.returns-in-Error

@@ -35,5 +35,5 @@ pub address-added : {E : Type 0} (old m₁ m₂ m₃ new host port : List ℕ) (
     m₁ ≡ old ++ (32 ∷ []) → m₂ ≡ m₁ ++ host → m₃ ≡ m₂ ++ (58 ∷ []) → Added port m₃ new r → Added (32 ∷ (host ++ (58 ∷ port))) old new r
 address-added old m₁ m₂ m₃ new host port r a b c d =
     let front : m₃ ≡ old ++ (32 ∷ (host ++ (58 ∷ []))) =
-        c ∙ ap (λ l. l ++ (58 ∷ [])) (b ∙ ap (λ l. l ++ host) a) ∙ simp append-assoc in
+    c ∙ ap (λ l. l ++ (58 ∷ [])) (b ∙ ap (λ l. l ++ host) a) ∙ simp append-assoc in
     subst (λ l. Added (32 ∷ l) old new r) (append-assoc host (58 ∷ []) port) (added-more (32 ∷ (host ++ (58 ∷ []))) port old m₃ new r front d)

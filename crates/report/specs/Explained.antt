@@ -71,8 +71,8 @@ unfoldable pub entry-line : ℕ → Kind → List ℕ → List ℕ
 entry-line i k bs =
     codes "entry"
     ++ spaced
-      (decimal i ∷ kind-word k ∷ ending-name (entry-ending k bs) ∷ code-word (entry-error k bs) ∷ method-word (retry (refusal (entry-ending k bs)))
-        ∷ redirect-word (entry-error k bs) ∷ [])
+    (decimal i ∷ kind-word k ∷ ending-name (entry-ending k bs) ∷ code-word (entry-error k bs) ∷ method-word (retry (refusal (entry-ending k bs)))
+    ∷ redirect-word (entry-error k bs) ∷ [])
 
 -- the line of the i-th entry, and those of the entries behind it; what is cut off plays dropped
 abbrev pub played-line : (ℕ → List ℕ → List ℕ) → ℕ → Option (Read Played) → List ℕ

@@ -92,7 +92,12 @@ fn address(out: &mut Vec<u8>, heap: Global, text: &[u8], target: Target) -> Resu
 }
 
 // The redirect in the error whose text lies at the place.
-fn redirect(out: &mut Vec<u8>, heap: Global, bytes: &[u8], error: Option<Place>) -> Result<(), AllocError>
+fn redirect(
+    out: &mut Vec<u8>,
+    heap: Global,
+    bytes: &[u8],
+    error: Option<Place>,
+) -> Result<(), AllocError>
     ensures { λ r. ⌜ Added (32 ∷ redirect-word (text-at (now (bytes .entry)) error)) (vec-items (now (out .entry))) (vec-items (now (out .exit))) r ⌝ }
 {
     let Some(place) = error else {
@@ -123,7 +128,13 @@ fn entry_line(heap: Global, index: u64, kind: Kind, bytes: &[u8]) -> Result<Vec<
     Ok(out)
 }
 
-fn line(out: &mut Vec<u8>, heap: Global, index: u64, kind: Kind, bytes: &[u8]) -> Result<(), AllocError>
+fn line(
+    out: &mut Vec<u8>,
+    heap: Global,
+    index: u64,
+    kind: Kind,
+    bytes: &[u8],
+) -> Result<(), AllocError>
     ensures { λ r. ⌜ Added (entry-line index kind (now (bytes .entry)) ++ (10 ∷ [])) (vec-items (now (out .entry))) (vec-items (now (out .exit))) r ⌝ }
 {
     let text = entry_line(heap, index, kind, bytes)?;

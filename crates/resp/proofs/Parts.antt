@@ -21,9 +21,9 @@ module _ (bs : List ℕ) (start end s e : ℕ) (e-is : e ≡ min end (length bs)
       let same : s ≡ start = omega arith in
       ap (λ i. take (e - i) (drop i bs)) same
       ∙ ⊎-elim
-        (λ (within : end < length bs). ap (λ j. take (j - start) (drop start bs)) (omega arith))
-        (λ (over : length bs ≤ end). take-all (e - start) (drop start bs) (omega (arith, length-drop start bs)) ∙ sym (take-all (end - start) (drop start bs) (omega (arith, length-drop start bs))))
-        (cases-lt end (length bs))
+      (λ (within : end < length bs). ap (λ j. take (j - start) (drop start bs)) (omega arith))
+      (λ (over : length bs ≤ end). take-all (e - start) (drop start bs) (omega (arith, length-drop start bs)) ∙ sym (take-all (end - start) (drop start bs) (omega (arith, length-drop start bs))))
+      (cases-lt end (length bs))
 
   pub clipped : take (e - s) (drop s bs) ≡ take (end - start) (drop start bs)
   clipped =

@@ -114,8 +114,7 @@ bulk-sound (Some n) bs behind rest h m e =
     let ds = m .0 in
     let last : drop n behind ≡ crlf ++ rest = c .1 ∙ ap (λ l. crlf ++ l) (same-rest (x .2)) in
     let body : behind ≡ t ++ (crlf ++ rest) = sym (take-append-drop n behind) ∙ ap (λ l. t ++ l) last in
-    subst (λ g. Begins g (36 ∷ bs) rest) (ap (λ l. whole (bulk-string l)) (sym (c .0)) ∙ same-value (x .2))
-    (
+    subst (λ g. Begins g (36 ∷ bs) rest) (ap (λ l. whole (bulk-string l)) (sym (c .0)) ∙ same-value (x .2)) (
       36 ∷ (ds ++ (crlf ++ (t ++ crlf))),
       ap (λ l. 36 ∷ l) (m .2 ∙ ap (λ l. ds ++ (crlf ++ l)) body) ∙ simp append-assoc,
       (ds, m .1 ∙ ap Some (sym (body-fits n behind rest last)), refl),
@@ -151,8 +150,7 @@ announced-sound k bs rest h (x ∷ xs) all e =
 head-sound : (bs rest : List ℕ) (h : Head) → head bs ≡ read h rest → Begins h bs rest
 head-sound [] rest h e = absurd (none-read e)
 head-sound (k ∷ bs) rest h e =
-    announced-sound k bs rest h (kinds bs)
-    (
+    announced-sound k bs rest h (kinds bs) (
       texted-sound 43 simple-string (λ t p. ((p, refl), omega arith)) bs rest h,
       (
         texted-sound 45 simple-error (λ t p. ((p, refl), omega arith)) bs rest h,
@@ -238,7 +236,7 @@ value-sound zero bs rest v e =
 value-sound (suc d) bs rest v e =
     let x = then-read (head bs) (completed (several (value d))) v rest e in
     let nested : (n : ℕ) (cs behind : List ℕ) (vs : Values) → several (value d) n cs ≡ read vs behind → (front : List ℕ) × (cs ≡ front ++ behind) × Follow vs front × (count vs ≡ n) × (suc (deepest vs) ≤ suc d) =
-        λ n cs behind vs f. let g = several-sound d (value d) (value-sound d) n cs behind vs f in (g .0, g .1, g .2, g .3, omega (arith, g .4)) in
+    λ n cs behind vs f. let g = several-sound d (value d) (value-sound d) n cs behind vs f in (g .0, g .1, g .2, g .3, omega (arith, g .4)) in
     completed-sound (suc d) (several (value d)) nested (x .0 .value) bs (x .0 .rest) rest v (head-sound bs (x .0 .rest) (x .0 .value) (x .1)) (x .2)
 
 -- values: what stands there is read

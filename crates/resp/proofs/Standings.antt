@@ -73,9 +73,9 @@ digit-plain c e = (grind (arith, tells), grind (arith, tells))
 digits-plain : (n : ℕ) (cs : List ℕ) (m : ℕ) → digits n cs ≡ Some m → Plain cs
 digits-plain n [] m e = tt
 digits-plain n (c ∷ cs) m e = elim (digit c) as (λ t. digit c ≡ t → cond t (digits (10 * n + (c - 48)) cs) None ≡ Some m → Plain (c ∷ cs)) [
-    | true ↦ λ h k. (digit-plain c h .0, digits-plain (10 * n + (c - 48)) cs m k)
-    | false ↦ λ h k. let z : _≡_ {A = ℕ} 0 1 = cc in absurd (omega arith)
-  ] refl e
+  | true ↦ λ h k. (digit-plain c h .0, digits-plain (10 * n + (c - 48)) cs m k)
+  | false ↦ λ h k. let z : _≡_ {A = ℕ} 0 1 = cc in absurd (omega arith)
+] refl e
 
 pub natural-plain : (cs : List ℕ) (m : ℕ) → natural cs ≡ Some m → Plain cs
 natural-plain [] m e = tt
@@ -86,9 +86,9 @@ pub natural-digit : (cs : List ℕ) (m : ℕ) → natural cs ≡ Some m → minu
 natural-digit [] m e = refl
 natural-digit (c ∷ []) m e = refl
 natural-digit (c ∷ d ∷ []) m e = elim (digit c) as (λ t. digit c ≡ t → cond t (digits (10 * 0 + (c - 48)) (d ∷ [])) None ≡ Some m → minus-one (c ∷ d ∷ []) ≡ false) [
-    | true ↦ λ h k. rw (digit-plain c h .1)
-    | false ↦ λ h k. let z : _≡_ {A = ℕ} 0 1 = cc in absurd (omega arith)
-  ] refl e
+  | true ↦ λ h k. rw (digit-plain c h .1)
+  | false ↦ λ h k. let z : _≡_ {A = ℕ} 0 1 = cc in absurd (omega arith)
+] refl e
 natural-digit (c ∷ d ∷ b ∷ cs) m e = refl
 
 positive-some : (o : Option ℕ) (z : ℤ) → positive o ≡ Some z → (n : ℕ) × (o ≡ Some n)

@@ -106,7 +106,7 @@ module _ (bs : List ℕ) (s : Size) (found : told-size bs (Some s) ≡ size bs) 
         let wide : s .len + n + 1 - (s .len + 1) ≡ n = omega arith in
         let text : part (36 ∷ bs) (record { start = s .len + 1; end = s .len + n + 1 }) ≡ take n (drop (s .len) bs) = rw (wide, behind-head 36) in
         let rest : drop (s .len + n + 3) (36 ∷ bs) ≡ drop 2 (drop n (drop (s .len) bs)) =
-            drop-behind 36 bs (s .len + n + 2) (s .len + n + 3) (omega arith) ∙ sym (drop-drop 2 (s .len + n) bs) ∙ ap (drop 2) (sym (drop-drop n (s .len) bs)) in
+        drop-behind 36 bs (s .len + n + 2) (s .len + n + 3) (omega arith) ∙ sym (drop-drop 2 (s .len + n) bs) ∙ ap (drop 2) (sym (drop-drop n (s .len) bs)) in
         ap (λ t. read (whole (bulk-string t)) (drop (s .len + n + 3) (36 ∷ bs))) text
         ∙ ap (read (whole (bulk-string (take n (drop (s .len) bs))))) rest
         ∙ ap (λ b. then (cond b (read (take n (drop (s .len) bs)) (drop 2 (drop n (drop (s .len) bs)))) None) (λ t behind. read (whole (bulk-string t)) behind)) (h ∙ ends)

@@ -40,14 +40,13 @@ written-more a b old mid new at e₁ e₂ h k same =
     let left : take e₁ mid ≡ take at old ++ a = ap (take e₁) split ∙ take-at (take at old ++ a) (drop e₁ old) e₁ front in
     let far : e₁ + length b ≡ e₂ = sym (k .0) in
     let right : drop e₂ mid ≡ drop e₂ old =
-        ap (λ n. drop n mid) (k .0) ∙ sym (drop-drop (length b) e₁ mid)
-        ∙ ap (drop (length b)) (ap (drop e₁) split ∙ drop-at (take at old ++ a) (drop e₁ old) e₁ front)
-        ∙ drop-drop (length b) e₁ old ∙ ap (λ n. drop n old) far in
-    (
+    ap (λ n. drop n mid) (k .0) ∙ sym (drop-drop (length b) e₁ mid)
+    ∙ ap (drop (length b)) (ap (drop e₁) split ∙ drop-at (take at old ++ a) (drop e₁ old) e₁ front)
+    ∙ drop-drop (length b) e₁ old ∙ ap (λ n. drop n old) far in (
       omega (arith, h .0, k .0, length-append a b),
       omega (arith, k .1),
       k .2 ∙ ap (λ l. l ++ (b ++ drop e₂ mid)) left ∙ ap (λ l. (take at old ++ a) ++ (b ++ l)) right
-      ∙ append-assoc (take at old) a (b ++ drop e₂ old) ∙ ap (λ l. take at old ++ l) (sym (append-assoc a b (drop e₂ old))),
+          ∙ append-assoc (take at old) a (b ++ drop e₂ old) ∙ ap (λ l. take at old ++ l) (sym (append-assoc a b (drop e₂ old))),
     )
 
 -- decimal texts

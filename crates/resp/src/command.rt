@@ -6,6 +6,7 @@ use crate::place::Place;
 use crate::token;
 
 const LONGEST: usize = 16384;
+
 const MOST: usize = 64;
 
 // The command that `bytes` are, whole: an array of 1 to 64 bulk strings, the first not empty.

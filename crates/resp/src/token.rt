@@ -46,7 +46,10 @@ fn simple_string(rest: &[u8]) -> Option<Token>
     ensures value { λ r. ⌜ told (43 ∷ now (rest .entry)) r ≡ headOf (43 ∷ now (rest .entry)) ⌝ }
 {
     let n = text_line(rest)?;
-    let head = Head::Simple(Place { start: 1, end: n + 1 });
+    let head = Head::Simple(Place {
+        start: 1,
+        end: n + 1,
+    });
     Some(Token { head, len: n + 3 })
 }
 
@@ -55,7 +58,10 @@ fn simple_error(rest: &[u8]) -> Option<Token>
     ensures value { λ r. ⌜ told (45 ∷ now (rest .entry)) r ≡ headOf (45 ∷ now (rest .entry)) ⌝ }
 {
     let n = text_line(rest)?;
-    let head = Head::Error(Place { start: 1, end: n + 1 });
+    let head = Head::Error(Place {
+        start: 1,
+        end: n + 1,
+    });
     Some(Token { head, len: n + 3 })
 }
 
@@ -65,7 +71,10 @@ fn number(rest: &[u8]) -> Option<Token>
 {
     let n = line(rest)?;
     let z = integer(&rest[0..n])?;
-    Some(Token { head: Head::Integer(z), len: n + 3 })
+    Some(Token {
+        head: Head::Integer(z),
+        len: n + 3,
+    })
 }
 
 fn bulk_string(rest: &[u8]) -> Option<Token>
@@ -74,13 +83,19 @@ fn bulk_string(rest: &[u8]) -> Option<Token>
 {
     let size = size(rest)?;
     let Some(n) = size.count else {
-        return Some(Token { head: Head::Nil, len: size.len + 1 });
+        return Some(Token {
+            head: Head::Nil,
+            len: size.len + 1,
+        });
     };
     let end = size.len + n;
     if !is_ended(&rest[end..]) {
         return None;
     }
-    let head = Head::Bulk(Place { start: size.len + 1, end: end + 1 });
+    let head = Head::Bulk(Place {
+        start: size.len + 1,
+        end: end + 1,
+    });
     Some(Token { head, len: end + 3 })
 }
 
@@ -91,8 +106,14 @@ fn array(rest: &[u8]) -> Option<Token>
     let size = size(rest)?;
     let len = size.len + 1;
     match size.count {
-        None => Some(Token { head: Head::Nil, len }),
-        Some(n) => Some(Token { head: Head::Array(n), len }),
+        None => Some(Token {
+            head: Head::Nil,
+            len,
+        }),
+        Some(n) => Some(Token {
+            head: Head::Array(n),
+            len,
+        }),
     }
 }
 

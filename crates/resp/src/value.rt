@@ -45,7 +45,10 @@ fn walk(bytes: &[u8], depth: u32) -> Option<Walk>
             len,
             error: Some(place),
         }),
-        Head::Simple(_) | Head::Integer(_) | Head::Bulk(_) | Head::Nil => Some(Walk { len, error: None }),
+        Head::Simple(_) | Head::Integer(_) | Head::Bulk(_) | Head::Nil => Some(Walk {
+            len,
+            error: None,
+        }),
     }
 }
 

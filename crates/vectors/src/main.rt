@@ -12,6 +12,7 @@ use std::io::BufReader;
 
 // Fronts of a long answer are tried at every so many bytes.
 const SHORT: usize = 4096;
+
 const STEP: usize = 97;
 
 fn digit(c: u8) -> u8 {

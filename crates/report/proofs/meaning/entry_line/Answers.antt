@@ -31,10 +31,28 @@ returns c =
     let w₅ = method-word (retry (refusal (entry-ending k bs))) in
     let w₆ = redirect-word (entry-error k bs) in
     chained (w₁ ∷ w₂ ∷ w₃ ∷ w₄ ∷ w₅ ∷ w₆ ∷ []) o₀ o₆ (
-      o₁, word-as o₀ o₁ _ w₁ (c .in-Continue-word .ensures tt) (c .as-bytes .ensures .value ∙ c .in-Continue-number .ensures tt .made), (
-        o₂, word-as o₁ o₂ _ w₂ (c .in-Continue-word-2 .ensures tt) (c .kind-name .ensures), (
-          o₃, word-as o₂ o₃ _ w₃ (c .in-Continue-word-3 .ensures tt) (c .as-bytes-2 .ensures .value ∙ c .name .ensures ∙ ap ending-name ending), (
-            o₄, word-as o₃ o₄ _ w₄ (c .in-Continue-code .ensures tt) (ap code-word error), (
-              o₅, word-as o₄ o₅ _ w₅ (c .in-Continue-method .ensures tt) (ap (λ e. method-word (retry (refusal e))) ending), (
-                o₆, word-as o₅ o₆ _ w₆ (c .in-Continue-redirect .ensures tt) (ap redirect-word error), refl))))))
+      o₁,
+      word-as o₀ o₁ _ w₁ (c .in-Continue-word .ensures tt) (c .as-bytes .ensures .value ∙ c .in-Continue-number .ensures tt .made),
+      (
+        o₂,
+        word-as o₁ o₂ _ w₂ (c .in-Continue-word-2 .ensures tt) (c .kind-name .ensures),
+        (
+          o₃,
+          word-as o₂ o₃ _ w₃ (c .in-Continue-word-3 .ensures tt) (c .as-bytes-2 .ensures .value ∙ c .name .ensures ∙ ap ending-name ending),
+          (
+            o₄,
+            word-as o₃ o₄ _ w₄ (c .in-Continue-code .ensures tt) (ap code-word error),
+            (
+              o₅,
+              word-as o₄ o₅ _ w₅ (c .in-Continue-method .ensures tt) (ap (λ e. method-word (retry (refusal e))) ending),
+              (
+                o₆,
+                word-as o₅ o₆ _ w₆ (c .in-Continue-redirect .ensures tt) (ap redirect-word error),
+                refl,
+              ),
+            ),
+          ),
+        ),
+      ),
+    )
     ∙ ap (λ l. l ++ spaced (w₁ ∷ w₂ ∷ w₃ ∷ w₄ ∷ w₅ ∷ w₆ ∷ [])) (c .in-Continue-extend-from-slice .ensures tt .items ∙ ap (λ l. l ++ codes "entry") (c .new-out .ensures .items))

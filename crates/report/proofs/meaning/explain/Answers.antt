@@ -19,12 +19,11 @@ loop-at-again c =
     let bs = c .args .tape .now in
     let inv = c .loop-at .inv in
     let found = c .in-Some .ensures tt in
-    let left = ap length (take-rest bs (c .loop-at .at)) ∙ length-drop (c .loop-at .at) bs in
-    (
+    let left = ap length (take-rest bs (c .loop-at .at)) ∙ length-drop (c .loop-at .at) bs in (
       omega (arith, found .within .1),
       omega (arith, left, found .within .2),
       line-more bs (c .loop-at .index) (c .loop-at .at) (vec-items (c .loop-at .out)) (explained bs) (inv .2) (inv .0) (c .loop-at-test .taken)
-      (vec-items (c .line-in-loop-at .last .out)) (c .text .result .now) (c .in-Some .entry) (found .value) (c .text .ensures) (c .in-Continue-line-2 .ensures tt),
+          (vec-items (c .line-in-loop-at .last .out)) (c .text .result .now) (c .in-Some .entry) (found .value) (c .text .ensures) (c .in-Continue-line-2 .ensures tt),
     )
 
 pub returns : need.returns

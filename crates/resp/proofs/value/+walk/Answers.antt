@@ -30,8 +30,7 @@ loop-i-again t c =
     let len = c .loop-i .len in
     let next = c .in-Continue-next .next in
     let found = c .in-Continue-next .ensures tt in
-    let left = ap length (take-rest bs len) ∙ length-drop len bs in
-    (
+    let left = ap length (take-rest bs len) ∙ length-drop len bs in (
       omega arith,
       omega (arith, left, found .within .0),
       rw (c .keep-first .ensures) (errs-more (length bs) len (c .loop-i .error) (next .error) (c .loop-i .inv .2) (subst (λ n. Errs n (next .error)) left (found .within .1)) (omega arith)),

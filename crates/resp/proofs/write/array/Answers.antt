@@ -13,8 +13,8 @@ push-requires c κs = omega (arith, room-for (c .args .count) (omega arith), c .
 pub returns : need.returns
 returns c =
     let text =
-        c .text .ensures ∙ c .push .ensures .text
-        ∙ ap (λ l. 42 ∷ l) (c .push-decimal .ensures .text ∙ ap (λ l. decimal (c .args .count) ++ l) (c .ended-line .ensures .text)) in
+    c .text .ensures ∙ c .push .ensures .text
+    ∙ ap (λ l. 42 ∷ l) (c .push-decimal .ensures .text ∙ ap (λ l. decimal (c .args .count) ++ l) (c .ended-line .ensures .text)) in
     record {
       written = subst (λ l. Written l (c .args .at) (c .args .out .now) (c .put .last .out) (c .put .result)) text (c .put .ensures);
       back = array-back (c .args .count) (omega arith);

@@ -15,8 +15,8 @@ pub returns-then-not-has-room : need.returns-then-not-has-room
 returns-then-not-has-room c =
     let t = c .args .text .now in
     let head =
-        c .text-head .ensures ∙ c .push .ensures .text
-        ∙ ap (λ l. 36 ∷ l) (c .push-decimal .ensures .text ∙ ap (λ l. decimal (length t) ++ l) (c .ended-line .ensures .text)) in
+    c .text-head .ensures ∙ c .push .ensures .text
+    ∙ ap (λ l. 36 ∷ l) (c .push-decimal .ensures .text ∙ ap (λ l. decimal (length t) ++ l) (c .ended-line .ensures .text)) in
     record {
       written = bulk-refused t (c .text-head .result .now) head (c .args .out .now) (c .args .at) (sym (c .if-not-has-room .ensures tt));
       back = bulk-back t (omega arith);
@@ -26,8 +26,8 @@ pub returns : need.returns
 returns c =
     let t = c .args .text .now in
     let head =
-        c .text-head .ensures ∙ c .push .ensures .text
-        ∙ ap (λ l. 36 ∷ l) (c .push-decimal .ensures .text ∙ ap (λ l. decimal (length t) ++ l) (c .ended-line .ensures .text)) in
+    c .text-head .ensures ∙ c .push .ensures .text
+    ∙ ap (λ l. 36 ∷ l) (c .push-decimal .ensures .text ∙ ap (λ l. decimal (length t) ++ l) (c .ended-line .ensures .text)) in
     record {
       written = bulk-written t (c .text-head .result .now) head (c .args .out .now) (c .put .last .out) (c .put-2 .last .out) (c .put-3 .last .out) (c .args .at) (c .in-Continue-body .body) (c .in-Continue-end .end) (c .in-Continue-body .ensures tt) (c .in-Continue-end .ensures tt) (omega arith) (omega arith) (c .put-3 .result) (sym (c .if-not-has-room .ensures tt)) (c .put-3 .ensures);
       back = bulk-back t (omega arith);

@@ -19,8 +19,7 @@ loop-left-again c =
     let inv = c .loop-left .inv in
     let more = c .loop-left-test .taken in
     let shorter = step-length left (inv .0) more in
-    let put = c .push .ensures in
-    (
+    let put = c .push .ensures in (
       omega arith,
       omega (arith, shorter, put .room),
       omega (arith, shorter, put .room),

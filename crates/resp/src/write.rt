@@ -1,9 +1,9 @@
-ghost use mathlib.Core.List.{_++_};
+ghost use mathlib.Core.List.{_∷_, _++_};
 ghost use mathlib.Core.Path.{_≡_};
 ghost use Prim.Native.Nat.{_+_, _<_};
 ghost use lib.Dec.{leb};
 ghost use lib.ListN.{drop};
-ghost use Rattle.std.specs.Written.{signed as signedOf};
+ghost use Rattle.std.specs.Written.{decimal, signed as signedOf};
 ghost use Rattle.resp.specs.Standing.{crlf};
 ghost use Rattle.resp.specs.Value.{bulk-string, integer as integerOf, null};
 ghost use Rattle.resp.specs.Writing.{bulk-text, integer-text, nil-text, array-text, Written, Reads-back, Heads};
@@ -21,6 +21,16 @@ fn put(out: &mut [u8], at: usize, text: &[u8]) -> Option<usize>
     Some(end)
 }
 
+// A type byte, a number and CR LF.
+fn headed(kind: u8, n: usize) -> Numeral
+    ensures { λ r. ⌜ drop (r .start) (r .bytes) ≡ kind ∷ (decimal n ++ crlf) ⌝ }
+{
+    let mut line = Numeral::ended();
+    line.push_decimal(n as u64);
+    line.push(kind);
+    line
+}
+
 // Nil from `at` on.
 pub fn nil(out: &mut [u8], at: usize) -> Option<usize>
     ensures written { λ r. ⌜ Written nil-text at (now (out .entry)) (now (out .exit)) r ⌝ }
@@ -34,9 +44,7 @@ pub fn array(out: &mut [u8], at: usize, count: usize) -> Option<usize>
     ensures written { λ r. ⌜ Written (array-text count) at (now (out .entry)) (now (out .exit)) r ⌝ }
     ensures back { λ _. ⌜ Heads count ⌝ }
 {
-    let mut line = Numeral::ended();
-    line.push_decimal(count as u64);
-    line.push(b'*');
+    let line = headed(b'*', count);
     put(out, at, line.text())
 }
 
@@ -74,9 +82,7 @@ pub fn bulk_string(out: &mut [u8], at: usize, text: &[u8]) -> Option<usize>
     ensures written { λ r. ⌜ Written (bulk-text (now (text .entry))) at (now (out .entry)) (now (out .exit)) r ⌝ }
     ensures back { λ _. ⌜ Reads-back (bulk-string (now (text .entry))) (bulk-text (now (text .entry))) ⌝ }
 {
-    let mut line = Numeral::ended();
-    line.push_decimal(text.len() as u64);
-    line.push(b'$');
+    let line = headed(b'$', text.len());
     let head = line.text();
     if !has_room(out.len(), at, head.len() + 2, text.len()) {
         return None;

@@ -15,10 +15,8 @@ use Rattle.node.specs.declared.split.Split.{Split}
 use Rattle.resp.specs.Number.{natural, below}
 use Rattle.resp.specs.Told.{part, Inside}
 use Rattle.resp.specs.declared.place.Place.{Place}
-use Rattle.errors.specs.Redirection.{small, slot, behind-slot, node, sends, sent-to, node-in, redirect, told, Fits}
-use Rattle.errors.specs.Codes.{kind}
-use Rattle.errors.specs.Words.{code-text, detail-text, first-word, behind-word}
-use Rattle.errors.specs.declared.server_error.ServerErrorKind.{ServerErrorKind}
+use Rattle.errors.specs.Redirection.{small, slot, behind-slot, node, told, Fits}
+use Rattle.errors.specs.Words.{first-word, behind-word}
 
 small-below : (o : Option ℕ) → small (below (2 ^ 64) o) ≡ small o
 small-below None = refl
@@ -68,16 +66,10 @@ inner-part bs d p inside =
     ∙ ap (take (p .end - p .start)) (drop-drop (p .start) (d .start) bs)
     ∙ ap (λ n. take n (drop (d .start + p .start) bs)) (sym wide)
 
-module _ (text : List ℕ) (d p : Place) (port : ℕ) (k : ServerErrorKind)
-    (whole : Inside (length text) d)
-    (inside : Inside (length (part text d)) p)
-    (is-kind : Some k ≡ kind (code-text text))
-    (is-detail : Some (part text d) ≡ detail-text text)
-    (is-node : Some (record { host = part (part text d) p; port = port }) ≡ node (part text d)) where
-  pub sent-fits : (d .start + p .start ≤ d .start + p .end) × (d .start + p .end ≤ length text)
-  sent-fits = omega (arith, length-take (d .end - d .start) (drop (d .start) text), length-drop (d .start) text)
+module _ (text : List ℕ) (d p : Place) (port : ℕ) (whole : Inside (length text) d) (inside : Inside (length (part text d)) p) where
+  pub inner-fits : (d .start + p .start ≤ d .start + p .end) × (d .start + p .end ≤ length text)
+  inner-fits = omega (arith, length-take (d .end - d .start) (drop (d .start) text), length-drop (d .start) text)
 
-  pub sent-told : sends k (record { host = part text (record { start = d .start + p .start; end = d .start + p .end }); port = port }) ≡ redirect text
-  sent-told =
-      ap (λ h. sends k (record { host = h; port = port })) (sym (inner-part text d p inside))
-      ∙ ap (sent-to (Some k)) is-node ∙ ap (λ o. sent-to (Some k) (node-in o)) is-detail ∙ ap (λ o. sent-to o (node-in (detail-text text))) is-kind
+  pub inner-told : Some (record { host = part (part text d) p; port = port }) ≡ node (part text d) →
+      told text (Some (record { host = record { start = d .start + p .start; end = d .start + p .end }; port = port })) ≡ node (part text d)
+  inner-told is-node = ap (λ h. Some (record { host = h; port = port })) (sym (inner-part text d p inside)) ∙ is-node

@@ -2,7 +2,7 @@ ghost use mathlib.Core.Path.{_≡_};
 ghost use lib.ListN.{length};
 ghost use Rattle.node.specs.Address.{name-of};
 ghost use Rattle.node.specs.Host.{host-form};
-ghost use Rattle.resp.specs.Told.{part};
+ghost use Rattle.resp.specs.Told.{part, Inside};
 ghost use Rattle.std.specs.Options.{isSome};
 ghost use Rattle.std.specs.Slices.{found};
 ghost use Rattle.errors.specs.Redirection.{small as smallOf, slot as slotOf, node as nodeOf, redirect, Fits, told, named, Sends, sent};
@@ -73,6 +73,23 @@ pub fn redirect_node(detail: &[u8]) -> Option<Target>
     })
 }
 
+// The address that the detail at the place names, with its own place in the whole text.
+fn target_in(text: &[u8], detail: Place) -> Option<Target>
+    requires { ⌜ Inside (length (now text)) detail ⌝ }
+    ensures within { λ r. ⌜ Fits (length (now (text .entry))) r ⌝ }
+    ensures value { λ r. ⌜ told (now (text .entry)) r ≡ nodeOf (part (now (text .entry)) detail) ⌝ }
+{
+    let node = redirect_node(detail.text(text))?;
+    let host = Place {
+        start: detail.start + node.host.start,
+        end: detail.start + node.host.end,
+    };
+    Some(Target {
+        host,
+        port: node.port,
+    })
+}
+
 // Where an error sends its command: for good, or this once, behind ASKING.
 #[derive(Clone, Copy)]
 pub enum Redirect {
@@ -89,15 +106,10 @@ impl Redirect {
         let error = ServerError::read(text);
         let kind = error.kind?;
         let detail = error.detail?;
-        let node = redirect_node(detail.text(text))?;
-        let host = Place {
-            start: detail.start + node.host.start,
-            end: detail.start + node.host.end,
-        };
-        let port = node.port;
+        let target = target_in(text, detail)?;
         match kind {
-            ServerErrorKind::Moved => Some(Redirect::Moved(Target { host, port })),
-            ServerErrorKind::Ask => Some(Redirect::Ask(Target { host, port })),
+            ServerErrorKind::Moved => Some(Redirect::Moved(target)),
+            ServerErrorKind::Ask => Some(Redirect::Ask(target)),
             _ => None,
         }
     }

@@ -8,6 +8,8 @@ mod names;
 mod redirects;
 mod redis_error;
 mod server_error;
+#[cfg(test)]
+mod tests;
 mod words;
 
 pub use ending::Answer;

@@ -8,6 +8,8 @@ mod line;
 pub mod number;
 mod numeral;
 pub mod place;
+#[cfg(test)]
+mod tests;
 pub mod token;
 pub mod value;
 pub mod write;

@@ -87,8 +87,13 @@ fn redirects_to_a_readable_address() -> Result<(), Fail> {
         return Err(Fail::new("a redirect for good"));
     };
     check(moved.host.text(text) == b"127.0.0.1")?;
-    let address = moved.address(text).ok_or("an address")?;
-    check(address == NodeAddress::parse(b"127.0.0.1:6381").ok_or("a readable text")?)?;
+    let Some(address) = moved.address(text) else {
+        return Err(Fail::new("an address"));
+    };
+    let Some(read) = NodeAddress::parse(b"127.0.0.1:6381") else {
+        return Err(Fail::new("a readable text"));
+    };
+    check(address == read)?;
     let ask = Redirect::read(b"ASK +7 h:1");
     check(matches!(
         ask,

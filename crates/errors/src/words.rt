@@ -32,7 +32,7 @@ impl Run {
 }
 
 // How many bytes at the front belong to the run.
-pub fn span(bytes: &[u8], run: Run) -> usize
+pub(crate) fn span(bytes: &[u8], run: Run) -> usize
     ensures within { λ r. ⌜ r ≤ length (now (bytes .entry)) ⌝ }
     ensures value { λ r. ⌜ r ≡ spanOf run (now (bytes .entry)) ⌝ }
 {
@@ -45,7 +45,7 @@ pub fn span(bytes: &[u8], run: Run) -> usize
 }
 
 // The first word from `at` on; it is empty where none is left.
-pub fn word(bytes: &[u8], at: usize) -> Place
+pub(crate) fn word(bytes: &[u8], at: usize) -> Place
     requires { ⌜ at ≤ length (now bytes) ⌝ }
     ensures after { λ r. ⌜ at ≤ r .start ⌝ }
     ensures inside { λ r. ⌜ (r .start ≤ r .end) × (r .end ≤ length (now (bytes .entry))) ⌝ }

@@ -28,7 +28,7 @@ fn show_byte(out: &mut Vec<u8>, b: u8) -> Result<(), AllocError>
 }
 
 // The bytes, each as a report shows it.
-pub fn show_all(out: &mut Vec<u8>, bytes: &[u8]) -> Result<(), AllocError>
+pub(crate) fn show_all(out: &mut Vec<u8>, bytes: &[u8]) -> Result<(), AllocError>
     ensures { λ r. ⌜ Added (all-shown (now (bytes .entry))) (vec-items (now (out .entry))) (vec-items (now (out .exit))) r ⌝ }
 {
     for b in bytes {
@@ -38,7 +38,7 @@ pub fn show_all(out: &mut Vec<u8>, bytes: &[u8]) -> Result<(), AllocError>
 }
 
 // The bytes as a word of a report.
-pub fn show(out: &mut Vec<u8>, bytes: &[u8]) -> Result<(), AllocError>
+pub(crate) fn show(out: &mut Vec<u8>, bytes: &[u8]) -> Result<(), AllocError>
     ensures { λ r. ⌜ Added (shown (now (bytes .entry))) (vec-items (now (out .entry))) (vec-items (now (out .exit))) r ⌝ }
 {
     if bytes.is_empty() {

@@ -40,7 +40,7 @@ fn plain_blocks(bytes: &[u8]) -> usize
 }
 
 // How many bytes stand before the first CR or LF.
-pub fn plain_len(bytes: &[u8]) -> usize
+pub(crate) fn plain_len(bytes: &[u8]) -> usize
     ensures within { λ r. ⌜ r ≤ length (now (bytes .entry)) ⌝ }
     ensures value { λ r. ⌜ r ≡ plain (now (bytes .entry)) ⌝ }
 {
@@ -67,7 +67,7 @@ fn long_plain_len(bytes: &[u8]) -> usize
 }
 
 // Whether CR LF stands at the front.
-pub fn is_ended(bytes: &[u8]) -> bool
+pub(crate) fn is_ended(bytes: &[u8]) -> bool
     ensures { λ r. ⌜ r ≡ ended (now (bytes .entry)) ⌝ }
 {
     match bytes {
@@ -77,7 +77,7 @@ pub fn is_ended(bytes: &[u8]) -> bool
 }
 
 // The line at the front: the length of its text, behind which CR LF stands.
-pub fn line(bytes: &[u8]) -> Option<usize>
+pub(crate) fn line(bytes: &[u8]) -> Option<usize>
     ensures within { λ r. ⌜ found r (λ n. n + 2 ≤ length (now (bytes .entry))) ⌝ }
     ensures value { λ r. ⌜ cut (now (bytes .entry)) r ≡ lineOf (now (bytes .entry)) ⌝ }
 {
@@ -86,7 +86,7 @@ pub fn line(bytes: &[u8]) -> Option<usize>
 }
 
 // The same for a text, which may be long.
-pub fn text_line(bytes: &[u8]) -> Option<usize>
+pub(crate) fn text_line(bytes: &[u8]) -> Option<usize>
     ensures within { λ r. ⌜ found r (λ n. n + 2 ≤ length (now (bytes .entry))) ⌝ }
     ensures value { λ r. ⌜ cut (now (bytes .entry)) r ≡ lineOf (now (bytes .entry)) ⌝ }
 {

@@ -7,7 +7,7 @@ ghost use Rattle.resp.specs.Standing.{crlf};
 
 // A short line, written from its end to its front.
 #[derive(Clone, Copy)]
-pub struct Numeral {
+pub(crate) struct Numeral {
     bytes: [u8; 24],
     start: usize,
     ghost within: { start ≤ 24 },
@@ -15,7 +15,7 @@ pub struct Numeral {
 
 impl Numeral {
     // CR LF alone.
-    pub fn ended() -> Self
+    pub(crate) fn ended() -> Self
         ensures room { λ r. ⌜ r .start ≡ 22 ⌝ }
         ensures text { λ r. ⌜ drop (r .start) (r .bytes) ≡ crlf ⌝ }
     {
@@ -26,14 +26,14 @@ impl Numeral {
     }
 
     // The bytes of the line.
-    pub fn text(&self) -> &[u8]
+    pub(crate) fn text(&self) -> &[u8]
         ensures { λ r. ⌜ now r ≡ drop (now (self .entry) .start) (now (self .entry) .bytes) ⌝ }
     {
         &self.bytes[self.start..]
     }
 
     // One byte more in front.
-    pub fn push(&mut self, b: u8)
+    pub(crate) fn push(&mut self, b: u8)
         requires { ⌜ 0 < now self .start ⌝ }
         ensures room { λ _. ⌜ now (self .exit) .start + 1 ≡ now (self .entry) .start ⌝ }
         ensures text { λ _. ⌜ drop (now (self .exit) .start) (now (self .exit) .bytes) ≡ b ∷ drop (now (self .entry) .start) (now (self .entry) .bytes) ⌝ }
@@ -43,7 +43,7 @@ impl Numeral {
     }
 
     // A number in front.
-    pub fn push_decimal(&mut self, n: u64)
+    pub(crate) fn push_decimal(&mut self, n: u64)
         requires { ⌜ 20 ≤ now self .start ⌝ }
         ensures room { λ _. ⌜ now (self .exit) .start + length (decimal n) ≡ now (self .entry) .start ⌝ }
         ensures text { λ _. ⌜ drop (now (self .exit) .start) (now (self .exit) .bytes) ≡ decimal n ++ drop (now (self .entry) .start) (now (self .entry) .bytes) ⌝ }

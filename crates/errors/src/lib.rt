@@ -3,6 +3,8 @@
 //
 // Each is proved equal to its definition in specs/. Names and rules are those of the Rust crate's
 // errors/server_error.rs and errors/redis_error.rs. What is done about an error is left to others.
+#![tactic(auto)]
+
 mod ending;
 mod names;
 mod redirects;

@@ -11,7 +11,9 @@ host_within bs h = leb-true (length bs) 64 (and_parts _ _ (and_parts _ _ h).0).1
 
 -- a host with zeros behind it
 pub padded_formed : (bytes all : List ℕ) → host_form bytes ≡ true → all ≡ bytes ++ replicate (64 - length bytes) 0 → padded_host all (length bytes) ≡ true
-padded_formed bytes all form is = and_from _ _ (is_padded bytes all is (host_within bytes form)) (ap host_form (padded_front bytes all is) ∙ form)
+padded_formed bytes all form is =
+    let p = and_parts _ _ (is_padded bytes all is (host_within bytes form)) in
+    and_from _ _ (and_from _ _ p.0 (ap host_form (padded_front bytes all is) ∙ form)) p.1
 
 abbrev pub formed_address : (host : List ℕ) → ℕ → host_form host ≡ true → NodeAddress
 formed_address host port form = record {

@@ -1,11 +1,12 @@
 -- The order of addresses is total: `ascending` by its laws, and `addresses` as std's maps ask for it.
-use Rattle.std.specs.Prelude.{◌≡◌, ℕ, ◌<◌, ◌⊎◌, List, [], ◌∷◌, refl}
+use Rattle.std.specs.Prelude.{◌≡◌, ℕ, ◌<◌, ◌⊎◌, Bool, ◌==◌, List, [], ◌∷◌, refl}
 use Rattle.std.specs.declared.cmp.Ordering.TheVariants.{Less, Equal, Greater}
 use Rattle.std.specs.declared.cmp.Ordering.{Ordering}
 use Rattle.std.proofs.Common.{inl, inr, sym, subst, ◌∙◌, arith}
 use Rattle.std.specs.Cmp.{IsTotalOrder, strict, ranks}
 use Rattle.std.specs.Cmp.Lexicographic.{slice_cmp}
-use Rattle.std.specs.Ordering.{MatchOrdering, ordering_then, nat_cmp}
+use Rattle.std.specs.Ordering.{MatchOrdering, ordering_then, nat_cmp, on, then_cmp, eq_of_both}
+use lib.Pointwise.{pointwise}
 use Rattle.node.specs.Address.{host_of}
 use Rattle.node.specs.Order.{Before, Below, StrictTotal}
 use Rattle.node.specs.Same.{same_address}
@@ -58,13 +59,18 @@ below_chain a b c (inl h) (inr k) = inl (subst (Before (host_of a)) k.0 h)
 below_chain a b c (inr h) (inl k) = inl (subst (λ l. Before l (host_of c)) (sym h.0) k)
 below_chain a b c (inr h) (inr k) = inr (h.0 ∙ k.0, omega (arith, h.1, k.1))
 
+-- what `cmp` answers: the hosts are compared byte by byte, and then the ports
 abbrev pub address_rank : NodeAddress → NodeAddress → Ordering
-address_rank a b = ordering_then (slice_cmp nat_cmp (host_of a) (host_of b)) (nat_cmp a.port b.port)
+address_rank = then_cmp (on host_of (slice_cmp nat_cmp)) (on (λ a. a.port) nat_cmp)
+
+-- what `eq` answers
+abbrev pub address_same : NodeAddress → NodeAddress → Bool
+address_same = eq_of_both (on host_of (pointwise ◌==◌)) (on (λ a. a.port) ◌==◌)
 
 pub address_ranks : (a b : NodeAddress) → MatchOrdering (address_rank a b) (Below a b) (a ≡ b) (Below b a)
 address_ranks a b = then_ranks a b (slice_cmp nat_cmp (host_of a) (host_of b)) (nat_cmp a.port b.port) (lex_ranks (host_of a) (host_of b)) (ranks a.port b.port)
 
-abbrev pub addresses : IsTotalOrder (λ (a b : NodeAddress) (r : Ordering). MatchOrdering r (Below a b) (a ≡ b) (Below b a))
+abbrev pub addresses : IsTotalOrder address_rank
 addresses = strict Below below_irrefl below_chain address_rank address_ranks
 
 one_way : (P Q R : Type 0) (r : Ordering) → MatchOrdering r P Q R → P ⊎ (Q ⊎ R)

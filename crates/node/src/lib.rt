@@ -4,6 +4,8 @@
 // the host and then by the port, and that order is total. A text is read as an address exactly if it is
 // a host, a colon and a port, as specs/Readable.antt says. Whether a host can be found or reached is
 // left to others.
+#![tactic(auto)]
+
 mod address;
 mod host;
 mod port;

@@ -1,4 +1,6 @@
 // The program `order`: what recorded answers mean for the client.
+#![tactic(auto)]
+
 use anyhow::anyhow;
 use report::explain;
 use std::io::Write;
@@ -11,10 +13,7 @@ A tape is a file of recorded answers. For each entry a line is printed:
     entry INDEX KIND ENDING CODE METHOD REDIRECT
 KIND is answer, dropped, denied or other; ENDING how it ends for the client; of a
 server error CODE is its code and REDIRECT the address that it names, if any; METHOD
-is what a retry does first; - stands for none. What is cut off counts as dropped.
-Behind the line of a slot answer, its ranges are printed, a line each:
-    range START END PRIMARY REPLICA ..
-The host - stands for the one that answered, which a tape does not name.";
+is what a retry does first; - stands for none. What is cut off counts as dropped.";
 
 const HINT: &str = "expected: order explain TAPE; 'order help' tells more";
 
@@ -39,12 +38,12 @@ fn run(rt: &HostRuntime) -> anyhow::Result<()> {
     let operand = args.next();
     let extra = args.next();
     let (Some(command), None) = (&command, &extra) else {
-        return Err(HINT.into());
+        return Err(anyhow!(HINT));
     };
     match (command.as_str(), &operand) {
         ("explain", Some(path)) => explain_tape(rt, path.as_str()),
         ("help" | "--help" | "-h", None) => Ok(rt.println(USAGE)?),
-        _ => Err(HINT.into()),
+        _ => Err(anyhow!(HINT)),
     }
 }
 

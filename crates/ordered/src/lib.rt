@@ -5,6 +5,8 @@
 // (specs/Table.antt and specs/Edits.antt); a table that is full refuses one more, and is as it was.
 // Each type of keys proves that its order is total. Who holds the entries, and what they mean, is left
 // to others.
+#![tactic(auto)]
+
 mod byte_key;
 mod edits;
 mod entry;

@@ -3,7 +3,6 @@ use Rattle.std.proofs.Common.{◌≡◌, ℕ, zero, suc, ◌+◌, ◌-◌, ◌<�
 use Rattle.std.proofs.lemmas.List.{take_rest, drop-drop, drop_all}
 use Rattle.resp.specs.Told.{part}
 use Rattle.report.specs.Explained.{entry_line, played_line, lines}
-use Rattle.report.specs.Ranges.{entry_ranges}
 use Rattle.tape.specs.Entries.{entry, told}
 use Rattle.tape.specs.declared.entry.Entry.{Entry}
 use Rattle.tape.specs.declared.entry.Kind.TheVariants.{Dropped}
@@ -15,9 +14,6 @@ lines_here n i (b ∷ bs) h = refl
 lines_none : (n i : ℕ) → lines n i [] ≡ []
 lines_none zero i = refl
 lines_none (suc n) i = refl
-
-joined_lines : (out line ranges rest : List ℕ) → ((out ++ (line ++ (10 ∷ []))) ++ ranges) ++ rest ≡ out ++ (line ++ (10 ∷ (ranges ++ rest)))
-joined_lines out line ranges rest = simp append_assoc
 
 module _ (bs : List ℕ) (i at : ℕ) (out all : List ℕ) (so_far : out ++ lines (length bs - i) (i + 1) (drop at bs) ≡ all) where
   pub lines_done : length bs ≤ at → out ≡ all
@@ -33,20 +29,17 @@ module _ (bs : List ℕ) (i at : ℕ) (out all : List ℕ) (so_far : out ++ line
     pub line_cut : None ≡ entry (take (length bs - at) (drop at bs)) → out ++ (entry_line (i + 1) Dropped [] ++ (10 ∷ [])) ≡ all
     line_cut e = ap (λ o. out ++ played_line (lines (length bs - (i + 1))) (i + 1) o) (e ∙ ap entry (take_rest bs at)) ∙ here
 
-    pub line_more : (mid new text : List ℕ) (e : Entry) → told (take (length bs - at) (drop at bs)) (Some e) ≡ entry (take (length bs - at) (drop at bs)) →
+    pub line_more : (new text : List ℕ) (e : Entry) → told (take (length bs - at) (drop at bs)) (Some e) ≡ entry (take (length bs - at) (drop at bs)) →
         text ≡ part (take (length bs - at) (drop at bs)) e.bytes →
-        mid ≡ out ++ (entry_line (i + 1) e.kind text ++ (10 ∷ [])) →
-        new ≡ mid ++ entry_ranges e.kind text →
+        new ≡ out ++ (entry_line (i + 1) e.kind text ++ (10 ∷ [])) →
         new ++ lines (length bs - (i + 1)) (i + 1 + 1) (drop (at + e.len) bs) ≡ all
-    line_more mid new text e found is-text written listed =
-        let others = lines (length bs - (i + 1)) in
-        let rest = others (i + 1 + 1) (drop (at + e.len) bs) in
+    line_more new text e found is-text written =
+        let rest = lines (length bs - (i + 1)) (i + 1 + 1) (drop (at + e.len) bs) in
         let line = entry_line (i + 1) e.kind text in
-        let ranges = entry_ranges e.kind text in
         let found_Here = subst (λ l. told l (Some e) ≡ entry l) (take_rest bs at) found in
         let text-here : text ≡ part (drop at bs) e.bytes = is-text ∙ ap (λ l. part l e.bytes) (take_rest bs at) in
         let one : i + 1 + 1 ≡ suc (i + 1) = omega arith in
-        ap (λ l. l ++ rest) (listed ∙ ap (λ l. l ++ ranges) written) ∙ joined_lines out line ranges rest
-        ∙ ap (λ l. out ++ (line ++ (10 ∷ (ranges ++ l)))) (ap (λ k. others k (drop (at + e.len) bs)) one ∙ ap (others (suc (i + 1))) (sym (drop-drop e.len at bs)))
-        ∙ ap (λ t. out ++ (entry_line (i + 1) e.kind t ++ (10 ∷ (entry_ranges e.kind t ++ others (suc (i + 1)) (drop e.len (drop at bs)))))) text-here
-        ∙ ap (λ o. out ++ played_line others (i + 1) o) found_Here ∙ here
+        ap (λ l. l ++ rest) written ∙ append_assoc out (line ++ (10 ∷ [])) rest ∙ ap (λ l. out ++ l) (append_assoc line (10 ∷ []) rest)
+        ∙ ap (λ l. out ++ (line ++ (10 ∷ l))) (ap (λ k. lines (length bs - (i + 1)) k (drop (at + e.len) bs)) one ∙ ap (lines (length bs - (i + 1)) (suc (i + 1))) (sym (drop-drop e.len at bs)))
+        ∙ ap (λ t. out ++ (entry_line (i + 1) e.kind t ++ (10 ∷ lines (length bs - (i + 1)) (suc (i + 1)) (drop e.len (drop at bs))))) text-here
+        ∙ ap (λ o. out ++ played_line (lines (length bs - (i + 1))) (i + 1) o) found_Here ∙ here

@@ -1,3 +1,3 @@
-pub mod Each
+pub mod Showing
 pub mod Adding
 pub mod Entries

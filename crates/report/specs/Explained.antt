@@ -1,6 +1,6 @@
--- What a report says of an entry of a tape: how it ends, of a server error its code, the retry method and the redirect, and of an
--- answer the ranges of the slot table that it gives.
+-- What a report says of an entry of a tape: how it ends, and of a server error its code, the retry method and the redirect.
 use Rattle.std.specs.Prelude.{ℕ, zero, suc, List, [], ◌∷◌, ◌++◌, length, Some, None, codes, decimal, Option}
+use Rattle.node.specs.Named.{Named}
 use Rattle.errors.specs.Endings.{ending, error_text, refusal, retry}
 use Rattle.errors.specs.Names.{ending_name, method_name}
 use Rattle.errors.specs.Redirection.{Sent, moved, ask, redirect}
@@ -9,9 +9,7 @@ use Rattle.errors.specs.declared.ending.Ending.{Ending}
 use Rattle.errors.specs.declared.ending.Ending.TheVariants as endings
 use Rattle.errors.specs.declared.redis_error.RetryMethod.{RetryMethod}
 use Rattle.resp.specs.Read.{Read}
-use Rattle.report.specs.Ranges.{entry_ranges}
-use Rattle.report.specs.Shown.{shown}
-use Rattle.report.specs.Words.{address_word, spaced}
+use Rattle.report.specs.Shown.{all_shown, shown}
 use Rattle.tape.specs.Entries.{Played, entry}
 use Rattle.tape.specs.declared.entry.Kind.{Kind}
 use Rattle.tape.specs.declared.entry.Kind.TheVariants.{Answer, Dropped, Denied, Other}
@@ -46,6 +44,9 @@ abbrev pub method_word : Option RetryMethod → List ℕ
 method_word None = dash
 method_word (Some m) = method_name m
 
+abbrev pub address_word : Named → List ℕ
+address_word n = all_shown n.host ++ (58 ∷ decimal n.port)
+
 abbrev pub sent_word : Option Sent → List ℕ
 sent_word None = dash
 sent_word (Some (moved n)) = address_word n
@@ -55,6 +56,11 @@ abbrev pub redirect_word : Option (List ℕ) → List ℕ
 redirect_word None = dash
 redirect_word (Some text) = sent_word (redirect text)
 
+-- words, each behind a blank
+abbrev pub spaced : List (List ℕ) → List ℕ
+spaced [] = []
+spaced (w ∷ ws) = 32 ∷ (w ++ spaced ws)
+
 unfoldable pub entry_line : ℕ → Kind → List ℕ → List ℕ
 entry_line i k bs =
     codes "entry"
@@ -62,11 +68,10 @@ entry_line i k bs =
     (decimal i ∷ kind_word k ∷ ending_name (entry_ending k bs) ∷ code_word (entry_error k bs) ∷ method_word (retry (refusal (entry_ending k bs)))
     ∷ redirect_word (entry_error k bs) ∷ [])
 
--- the line of the i-th entry, those of its ranges, and those of the entries behind it; what is cut off plays dropped
+-- the line of the i-th entry, and those of the entries behind it; what is cut off plays dropped
 abbrev pub played_line : (ℕ → List ℕ → List ℕ) → ℕ → Option (Read Played) → List ℕ
 played_line others i None = entry_line i Dropped [] ++ (10 ∷ [])
-played_line others i (Some x) =
-    entry_line i x.value.plays x.value.bytes ++ (10 ∷ (entry_ranges x.value.plays x.value.bytes ++ others (suc i) x.rest))
+played_line others i (Some x) = entry_line i x.value.plays x.value.bytes ++ (10 ∷ others (suc i) x.rest)
 
 -- the lines of a tape from its i-th entry on, of which there are at most so many
 abbrev pub lines : ℕ → ℕ → List ℕ → List ℕ

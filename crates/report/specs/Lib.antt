@@ -1,4 +1,2 @@
 pub mod Shown
-pub mod Words
-pub mod Ranges
 pub mod Explained

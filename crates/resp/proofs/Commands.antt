@@ -1,14 +1,14 @@
 -- The words of a command, one bulk string at a time.
-use Rattle.std.proofs.Common.{◌≡◌, ℕ, zero, suc, ◌+◌, ◌-◌, ◌<◌, ◌≤◌, Bool, true, false, cond, ◌&&◌, eqb, ltb, leb, List, [], ◌∷◌, ◌++◌, length, take, drop, Some, None, Option, sym, refl, ap, ◌∙◌, subst, append_assoc, append-nil, arith, length-append}
+use Rattle.std.proofs.Common.{◌≡◌, ℕ, suc, ◌+◌, ◌-◌, ◌<◌, ◌≤◌, Bool, true, false, cond, eqb, List, [], ◌∷◌, ◌++◌, length, take, drop, Some, None, Option, sym, refl, ap, ◌∙◌, subst, append_assoc, append-nil, arith, length-append}
 use Rattle.std.proofs.lemmas.List.{take_rest, drop-drop, length-drop, length-take-le, nil_from_length}
-use Rattle.std.proofs.lemmas.Bool.{ne_eqb, eq-eqb, lt-leb, le-leb, lt-ltb, le-ltb}
+use Rattle.std.proofs.lemmas.Bool.{ne_eqb, eq-eqb, le-leb, lt-ltb}
 use Rattle.std.proofs.lemmas.Bool.Decides.{nat_tests}
 use Rattle.resp.proofs.Walks.{part_moved}
-use Rattle.resp.specs.Command.{consed, word, words, lawful, elements_of, alone, Told}
+use Rattle.resp.specs.Command.{consed, words, lawful, elements_of, alone, Told}
 use Rattle.resp.specs.Read.{Read, read, then}
 use Rattle.resp.specs.Reading.{whole, elements, head, several, completed, value}
 use Rattle.resp.specs.Told.{part, shown, told, Inside}
-use Rattle.resp.specs.Value.{Value, simple_string, simple_error, integer, bulk_string, null, array, Values, none, more}
+use Rattle.resp.specs.Value.{Value, simple_string, simple_error, integer, bulk_string, null, array, Values, more}
 use Rattle.resp.specs.declared.place.Head.{Head}
 use Rattle.resp.specs.declared.place.Head.TheVariants.{Simple, Error, Integer, Bulk, Nil, Array}
 use Rattle.resp.specs.declared.place.Place.{Place}

@@ -1,5 +1,5 @@
 -- A command is read just where the bytes stand for one.
-use Rattle.std.proofs.Common.{◌≡◌, ℕ, zero, suc, ◌<◌, ◌≤◌, max, Bool, true, false, cond, ◌&&◌, eqb, ltb, leb, List, [], ◌∷◌, ◌++◌, length, Some, None, Option, sym, refl, ap, ◌∙◌, subst, append-nil, arith}
+use Rattle.std.proofs.Common.{◌≡◌, ℕ, ◌<◌, ◌≤◌, Bool, true, false, cond, ◌&&◌, eqb, ltb, leb, List, [], ◌∷◌, length, Some, None, Option, sym, refl, ap, ◌∙◌, subst, append-nil, arith}
 use Rattle.std.proofs.lemmas.List.{nil_from_length}
 use Rattle.std.proofs.lemmas.Bool.{eqb-true, leb-true, ltb-true, lt-ltb, le-leb, lt-leb, and_parts}
 use Rattle.resp.proofs.Readings.{value_sound, value_complete}
@@ -7,8 +7,7 @@ use Rattle.resp.specs.Command.{bulks, Commands, consed, words, lawful, elements_
 use Rattle.resp.specs.Read.{Read, read}
 use Rattle.resp.specs.Reading.{value}
 use Rattle.resp.specs.Standing.{Stands}
-use Rattle.resp.specs.Told.{part}
-use Rattle.resp.specs.Value.{Value, simple_string, simple_error, integer, bulk_string, null, array, Values, none, more, depth, deepest}
+use Rattle.resp.specs.Value.{Value, simple_string, simple_error, integer, bulk_string, null, array, Values, none, more, deepest}
 use Rattle.resp.specs.declared.place.Command.{Command}
 
 none_some : {A : Type 0} {x : A} → None ≡ Some x → ⊥

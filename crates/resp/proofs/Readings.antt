@@ -1,7 +1,7 @@
 -- Reading and standing for a value are one: heads, and whole values.
-use Rattle.std.proofs.Common.{◌≡◌, ℕ, zero, suc, ◌+◌, ◌-◌, ◌<◌, ◌≤◌, max, Bool, true, false, cond, ◌&&◌, eqb, leb, ◌⊎◌, List, [], ◌∷◌, ◌++◌, length, take, drop, ℤ, Some, None, Option, sym, refl, ap, ◌∙◌, subst, inl, inr, ⊎_elim, append_assoc, arith, length-append}
+use Rattle.std.proofs.Common.{◌≡◌, ℕ, zero, suc, ◌≤◌, max, true, cond, eqb, leb, List, [], ◌∷◌, ◌++◌, length, take, drop, ℤ, Some, None, Option, sym, refl, ap, ◌∙◌, subst, inl, inr, ⊎_elim, append_assoc, arith, length-append}
 use Rattle.std.proofs.lemmas.List.{take_at, drop_at, take-append-drop, length-drop, length-take-le, append_cancel_right}
-use Rattle.std.proofs.lemmas.Bool.{eqb-true, le-leb, leb-true, and_parts, false≢true}
+use Rattle.std.proofs.lemmas.Bool.{eqb-true, le-leb, and_parts, false≢true}
 use Rattle.resp.proofs.Shared.{same_value, same_rest}
 use Rattle.resp.proofs.Standings.{none_read, then_read, cond_read, closed_read, line_sound, line_complete, natural_plain, natural_digit, signed_plain}
 use Rattle.resp.specs.Line.{closed, line}

@@ -1,5 +1,5 @@
 -- What the reader tells, in both directions.
-use Rattle.std.proofs.Common.{◌≡◌, ℕ, ◌-◌, ◌≤◌, List, ◌++◌, length, take, drop, Some, None, Option, sym, refl, ap, ◌∙◌, subst, arith, length-append}
+use Rattle.std.proofs.Common.{◌≡◌, ℕ, List, length, take, drop, Some, None, Option, sym, ap, ◌∙◌, subst, arith, length-append}
 use Rattle.std.proofs.lemmas.List.{take_at, length-drop}
 use Rattle.resp.proofs.Readings.{value_sound, value_complete}
 use Rattle.resp.proofs.Shared.{same_value, same_rest}
@@ -8,7 +8,7 @@ use Rattle.resp.specs.Read.{Read, read}
 use Rattle.resp.specs.Reading.{value}
 use Rattle.resp.specs.Standing.{Stands, Stood}
 use Rattle.resp.specs.Told.{text_at, seen, told_walk, Walked}
-use Rattle.resp.specs.Value.{Value, depth, first_error}
+use Rattle.resp.specs.Value.{Value, first_error}
 use Rattle.resp.specs.declared.place.Walk.{Walk}
 
 seen_read : (r : Option (Read Value)) (e : Option (List ℕ)) (rest : List ℕ) → read e rest ≡ seen r → (v : Value) × (r ≡ read v rest) × (first_error v ≡ e)

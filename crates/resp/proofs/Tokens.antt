@@ -7,7 +7,7 @@ use Rattle.resp.specs.Line.{line, ended}
 use Rattle.resp.specs.Number.{natural, below, signed}
 use Rattle.resp.specs.Place.{cut}
 use Rattle.resp.specs.Read.{Read, read, then}
-use Rattle.resp.specs.Reading.{Head, whole, elements, texted, valued, minus_one, bounded, size, bulk, counted, head}
+use Rattle.resp.specs.Reading.{whole, elements, texted, valued, minus_one, bounded, size, bulk, counted, head}
 use Rattle.resp.specs.Told.{part, told, Within, told_size, Counts}
 use Rattle.resp.specs.Value.{Value, integer, bulk_string, null}
 use Rattle.resp.specs.declared.place.Size.{Size}

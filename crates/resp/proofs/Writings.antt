@@ -1,9 +1,9 @@
 -- What writing leaves in memory, and that it reads back.
-use Rattle.std.proofs.Common.{◌≡◌, ℕ, zero, suc, ◌+◌, ◌-◌, ◌*◌, ◌^◌, ◌<◌, ◌≤◌, Bool, true, false, cond, ◌&&◌, eqb, ltb, leb, List, [], ◌∷◌, ◌++◌, length, take, drop, ℤ, pos, negsuc, nat_abs, Some, None, Option, sym, refl, ap, ◌∙◌, subst, inl, append_assoc, arith, length-append, rules}
+use Rattle.std.proofs.Common.{◌≡◌, ℕ, suc, ◌+◌, ◌-◌, ◌*◌, ◌^◌, ◌<◌, Bool, true, false, cond, eqb, leb, List, [], ◌∷◌, ◌++◌, length, take, drop, ℤ, pos, negsuc, nat_abs, Some, None, Option, sym, refl, ap, ◌∙◌, subst, inl, append_assoc, arith, length-append, rules}
 use borrow.Rule.Slice.PartMut.{put_mid}
 use lib.Signed.{mag, lt_z}
 use Rattle.std.proofs.lemmas.Fmt.{digits_decimal, digits_value-decimal, decimal_nonempty}
-use Rattle.std.proofs.lemmas.List.{drop-drop, drop_at, take_at, length-take-le, length-drop}
+use Rattle.std.proofs.lemmas.List.{drop-drop, drop_at, take_at, length-take-le}
 use Rattle.std.proofs.lemmas.Str.Parse.{IsNumeralModel, numerals_by_fold, tells_all_ascii_digits}
 use Rattle.std.proofs.lemmas.Bool.{lt-ltb, le-leb, ltb-true, leb-true, leb-false, and_parts, false≢true}
 use Rattle.std.proofs.lemmas.Bool.Decides.{nat_tests}
@@ -11,8 +11,8 @@ use Rattle.std.specs.Fmt as std
 use Rattle.std.specs.Str.{all_ascii_digits}
 use Rattle.resp.proofs.Readings.{value_complete}
 use Rattle.resp.specs.Number.{digit, digits, natural, positive, negative, signed}
-use Rattle.resp.specs.Standing.{crlf, Stands, Follow}
-use Rattle.resp.specs.Value.{Value, bulk_string, integer, null, array, Values, count}
+use Rattle.resp.specs.Standing.{crlf, Stands}
+use Rattle.resp.specs.Value.{Value, bulk_string, integer, null, array}
 use Rattle.resp.specs.Writing.{bulk_text, integer_text, nil_text, array_text, Written, ReadsBack, Heads}
 
 pub put_is : (at end : ℕ) (old text part : List ℕ) → part ≡ text → end ≡ at + length text → put_mid at (end - at) old part ≡ take at old ++ (text ++ drop end old)

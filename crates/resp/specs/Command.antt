@@ -1,6 +1,6 @@
 -- A command: an array of 1 to 64 bulk strings, the first not empty, in at most 16,384 bytes.
 use Rattle.std.specs.Prelude.{◌≡◌, ℕ, ◌<◌, ◌≤◌, cond, ◌&&◌, List, [], ◌∷◌, length, Some, None, Option, ◌==◌, nat_le, nat_lt}
-use Rattle.resp.specs.Read.{Read, read, then}
+use Rattle.resp.specs.Read.{Read}
 use Rattle.resp.specs.Reading.{value}
 use Rattle.resp.specs.Standing.{Stands}
 use Rattle.resp.specs.Told.{part}

@@ -1,5 +1,5 @@
 -- The bytes that the client writes for a value, and what writing does to memory.
-use Rattle.std.specs.Prelude.{◌≡◌, ℕ, ◌+◌, ◌<◌, ◌≤◌, List, [], ◌∷◌, ◌++◌, length, take, drop, ℤ, Some, None, Option}
+use Rattle.std.specs.Prelude.{◌≡◌, ℕ, ◌+◌, ◌<◌, ◌≤◌, List, ◌∷◌, ◌++◌, length, take, drop, ℤ, Some, None, Option}
 use Rattle.std.specs.Fmt as std
 use Rattle.resp.specs.Read.{read}
 use Rattle.resp.specs.Reading.{value}

@@ -4,6 +4,8 @@
 // every byte string, or refused; the limits and the order of the table are in its types. A lookup gives the
 // range that covers a slot, and the addresses of a table come ascending, each once. Asking for the answer,
 // and what becomes of links to addresses that a table no longer names, is left to others.
+#![tactic(auto)]
+
 mod address_set;
 mod slot_map;
 mod slot_range;

@@ -2,6 +2,8 @@
 //
 // For each it prints the name; the least depth at which the answer is read whole, or -; how many of its
 // proper fronts were tried and how many of them were read whole; and what `explain` says of it.
+#![tactic(auto)]
+
 use report::explain;
 use resp::value;
 use std::alloc::{AllocError, Global};

@@ -10,12 +10,12 @@ returns c =
     let detail = c.args.detail.now in
     let first = c.word-first.result in
     let second = c.word-second.result in
-    let split = c.in-ok-split.split in
-    let found = c.in-ok-split.ensures in
-    let is-slot = c.in-ok--slot.ensures ∙ ap slot c.text.ensures in
+    let split = c.in_ok-split.split in
+    let found = c.in_ok-split.ensures in
+    let is-slot = c.in_ok-_slot.ensures ∙ ap slot c.text.ensures in
     let within = subst (λ l. split.host ≤ length l) c.text-2.ensures found.within in
     let is-split = subst (λ l. Some (parted l split) ≡ readable l) c.text-2.ensures found.value in
     record {
-      within = target_fits detail first second c.in-ok--slot.-slot split c.word-first.ensures.text c.word-first.ensures.rest is-slot c.word-second.ensures.text c.word-second.ensures.inside within is-split;
-      value = target_told detail first second c.in-ok--slot.-slot split c.word-first.ensures.text c.word-first.ensures.rest is-slot c.word-second.ensures.text c.word-second.ensures.inside within is-split;
+      within = target_fits detail first second c.in_ok-_slot._slot split c.word-first.ensures.text c.word-first.ensures.rest is-slot c.word-second.ensures.text c.word-second.ensures.inside within is-split;
+      value = target_told detail first second c.in_ok-_slot._slot split c.word-first.ensures.text c.word-first.ensures.rest is-slot c.word-second.ensures.text c.word-second.ensures.inside within is-split;
     }

@@ -8,8 +8,8 @@ pub returns : goal.returns
 returns c =
     let text = c.args.text.now in
     let d = c.args.detail in
-    let node = c.in-ok-node.node in
-    let found = c.in-ok-node.ensures in
+    let node = c.in_ok-node.node in
+    let found = c.in_ok-node.ensures in
     let inside = subst (λ l. Inside (length l) node.host) c.text.ensures found.within in
     record {
       within = inner_fits text d node.host node.port c.requires inside;

@@ -26,5 +26,5 @@ returns-else-n-entries g c =
       inserted = λ table.
           let same = all_of_it g.E.Entry.keyed g.Key-as-Key.ranks old n m table c.min-n.ensures in
           let found = found_in_front g.E.Entry.keyed g.Key-as-Key.ranks old n m table c.min-n.ensures c.key.result.now (g.E.Entry.keyed e) (Err c.in-Err.gap) c.key.ensures c.in-Err.ensures.found in
-          added g.E.Entry.keyed g.Key-as-Key.ranks g.Key-as-Key.total e old n table m c.in-Err.gap c.move-up.new.entries same (omega arith) found c.move-up.ensures;
+          added g.E.Entry.keyed g.Key-as-Key.ranks g.Key-as-Key.total e old n table m c.in-Err.gap c.move_up.new.entries same (omega arith) found c.move_up.ensures;
     }

@@ -14,5 +14,5 @@ returns-in-Ok g c =
       removed = λ table.
           let same = all_of_it g.E.Entry.keyed g.Key-as-Key.ranks old n m table c.min-n.ensures in
           let found = found_in_front g.E.Entry.keyed g.Key-as-Key.ranks old n m table c.min-n.ensures k k (Ok c.in-Ok.at) refl c.in-Ok.ensures.found in
-          taken_out g.E.Entry.keyed g.Key-as-Key.ranks g.Key-as-Key.total k old n table m c.in-Ok.at c.index-entries-at.result c.move-down.new.entries same found c.index-entries-at.is c.move-down.ensures;
+          taken_out g.E.Entry.keyed g.Key-as-Key.ranks g.Key-as-Key.total k old n table m c.in-Ok.at c.index-entries-at.result c.move_down.new.entries same found c.index-entries-at.is c.move_down.ensures;
     }

@@ -27,25 +27,25 @@ loop-size-preserved g c =
     let x = c.index-table-mid.result in
     let within : mid < length xs = omega (arith, c.loop-size.invariant.0, c.loop-size.invariant.1, c.loop-size-test.true) in
     ⊎_elim
-    (λ (above : c.is-above.result ≡ true).
+    (λ (above : c.is_above.result ≡ true).
     let stays : half * c.from.result ≡ half * 0 = ap (λ n. half * n) (c.from.ensures ∙ ap (λ b. bool_byte (not b)) above) in (
       omega arith,
       omega (arith, stays, c.loop-size.invariant.1),
       λ sorted. (
         λ i d low high. (c.loop-size.invariant.2 sorted).0 i d low (omega (arith, stays)),
-        λ i d low high. from_above g.E.Entry.keyed g.Key-as-Key.ranks g.Key-as-Key.total xs k sorted mid within x c.index-table-mid.is c.is-above.result c.is-above.ensures above i d (omega (arith, stays)) high,
+        λ i d low high. from_above g.E.Entry.keyed g.Key-as-Key.ranks g.Key-as-Key.total xs k sorted mid within x c.index-table-mid.is c.is_above.result c.is_above.ensures above i d (omega (arith, stays)) high,
       ),
     ))
-    (λ (not-above : c.is-above.result ≡ false).
+    (λ (not-above : c.is_above.result ≡ false).
     let moves : half * c.from.result ≡ half * 1 = ap (λ n. half * n) (c.from.ensures ∙ ap (λ b. bool_byte (not b)) not-above) in (
       omega arith,
       omega (arith, moves, c.loop-size.invariant.1),
       λ sorted. (
-        λ i d low high. before_not_above g.E.Entry.keyed g.Key-as-Key.ranks g.Key-as-Key.total xs k sorted mid within x c.index-table-mid.is c.is-above.result c.is-above.ensures not-above i d low (omega (arith, moves)),
+        λ i d low high. before_not_above g.E.Entry.keyed g.Key-as-Key.ranks g.Key-as-Key.total xs k sorted mid within x c.index-table-mid.is c.is_above.result c.is_above.ensures not-above i d low (omega (arith, moves)),
         λ i d low high. (c.loop-size.invariant.2 sorted).1 i d (omega (arith, moves)) high,
       ),
     ))
-    (cases_Bool c.is-above.result)
+    (cases_Bool c.is_above.result)
 
 pub returns-in-Less : goal.returns-in-Less
 returns-in-Less g c =

@@ -4,12 +4,12 @@ use Rattle.report.specs.Explained.{explained}
 use Rattle.report.proofs.Entries.{lines_done, line_cut, line_more}
 use Rattle.report.proofs.meaning.explain.Goals as goal
 
-pub returns-in-default : goal.returns-in-default
-returns-in-default c =
+pub returns-in_default : goal.returns-in_default
+returns-in_default c =
     let bs = c.args.tape.now in
     let inv = c.loop-at.invariant in
-    c.in-ok-line.ensures
-    ∙ line_cut bs c.loop-at.index c.loop-at.at (vec_items c.loop-at.out) (explained bs) inv.2 inv.0 c.loop-at-test.true c.in-default.ensures.value
+    c.in_ok-line.ensures
+    ∙ line_cut bs c.loop-at.index c.loop-at.at (vec_items c.loop-at.out) (explained bs) inv.2 inv.0 c.loop-at-test.true c.in_default.ensures.value
 
 pub loop-at-preserved : goal.loop-at-preserved
 loop-at-preserved c =
@@ -20,8 +20,7 @@ loop-at-preserved c =
       omega (arith, found.within.1),
       omega (arith, left, found.within.2),
       line_more bs c.loop-at.index c.loop-at.at (vec_items c.loop-at.out) (explained bs) inv.2 inv.0 c.loop-at-test.true
-          (vec_items c.line-in-loop-at.new.out) (vec_items c.entry_ranges.new.out) c.text-bytes.result.now c.in-Some.entry found.value c.text-bytes.ensures
-          c.in-ok-line-2.ensures c.in-ok-entry-ranges.ensures,
+          (vec_items c.line-in-loop-at.new.out) c.text.result.now c.in-Some.entry found.value c.text.ensures c.in_ok-line-2.ensures,
     )
 
 pub returns : goal.returns

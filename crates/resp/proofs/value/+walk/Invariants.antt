@@ -11,4 +11,4 @@ decreases-walk l = l.depth
 abbrev pub invariant-loop-i : goal.invariant-loop-i
 invariant-loop-i l =
     (0 < l.depth) × (l.len ≤ length l.bytes) × Errs (length l.bytes) l.error
-    × (joined (text_at l.bytes l.error) (all_seen (several (value (l.depth - 1)) (l.count - l.-i) (drop l.len l.bytes))) ≡ seen (value l.depth l.bytes))
+    × (joined (text_at l.bytes l.error) (all_seen (several (value (l.depth - 1)) (l.count - l._i) (drop l.len l.bytes))) ≡ seen (value l.depth l.bytes))

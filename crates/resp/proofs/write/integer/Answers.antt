@@ -1,4 +1,4 @@
-use Rattle.std.proofs.Common.{◌∷◌, ◌++◌, ap, ◌∙◌, subst, to_z-of_z, w64, SFits}
+use Rattle.std.proofs.Common.{◌∷◌, ap, ◌∙◌, subst, to_z-of_z, w64, SFits}
 use Rattle.resp.specs.Writing.{Written}
 use Rattle.resp.proofs.Writings.{integer_back}
 use Rattle.resp.proofs.write.integer.Goals as goal

@@ -6,5 +6,5 @@ pub returns : goal.returns
 returns c = (
   omega arith,
   omega arith,
-  put_is c.args.at c.in-ok-end.end c.args.out.now c.args.text.now c.copy-from-slice.new.self c.copy-from-slice.ensures.after (omega arith),
+  put_is c.args.at c.in_ok-end.end c.args.out.now c.args.text.now c.copy_from_slice.new.self c.copy_from_slice.ensures.after (omega arith),
 )

@@ -6,10 +6,10 @@ use Rattle.errors.specs.Words.{code_text}
 use Rattle.errors.proofs.Ends.{unread_ending, unread_error, longer_ending, longer_error, whole_ending, whole_error}
 use Rattle.errors.proofs.ending.Answer.read.Goals as goal
 
-pub returns-in-default : goal.returns-in-default
-returns-in-default c =
+pub returns-in_default : goal.returns-in_default
+returns-in_default c =
     let bs = c.args.bytes.now in
-    let found = c.in-default.ensures.value in
+    let found = c.in_default.ensures.value in
     record {
       ending = unread_ending c.args.lent bs c.if-bytes-lent.false found;
       error = unread_error c.args.lent bs c.if-bytes-lent.false found;
@@ -43,7 +43,7 @@ returns-in-Some-error c =
     let some = c.in-Some-error.is in
     record {
       ending =
-          c.error-ending-ending.ensures ∙ ap (λ t. kind_ending (kind (code_text t))) c.text.ensures
+          c.error_ending-ending.ensures ∙ ap (λ t. kind_ending (kind (code_text t))) c.text.ensures
           ∙ ap (λ p. error_ending (text_at bs p)) (sym some) ∙ whole_ending c.args.lent bs c.if-bytes-lent.false c.in-Some.walk found.value c.if-walk-bytes.false;
       error = ap (text_at bs) (sym some) ∙ whole_error c.args.lent bs c.if-bytes-lent.false c.in-Some.walk found.value c.if-walk-bytes.false;
       within = subst (Errs (length bs)) some found.within.1;

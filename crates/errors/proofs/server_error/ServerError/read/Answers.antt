@@ -9,7 +9,7 @@ returns-then-end-len c =
     let n = c.span-end.result in
     let is = c.span-end.ensures.value in
     record {
-      kind = c.from-code-kind.ensures ∙ ap kind (c.text.ensures ∙ code_part t n is);
+      kind = c.from_code-kind.ensures ∙ ap kind (c.text.ensures ∙ code_part t n is);
       code = code_part t n is;
       detail = detail_none t n is c.if-end-len.true;
       within = tt;
@@ -21,7 +21,7 @@ returns c =
     let n = c.span-end.result in
     let is = c.span-end.ensures.value in
     record {
-      kind = c.from-code-kind.ensures ∙ ap kind (c.text.ensures ∙ code_part t n is);
+      kind = c.from_code-kind.ensures ∙ ap kind (c.text.ensures ∙ code_part t n is);
       code = code_part t n is;
       detail = detail_some t n is (omega (arith, c.span-end.ensures.within));
       within = omega (arith, c.span-end.ensures.within);

@@ -8,11 +8,11 @@ pub loop-kind-init : goal.loop-kind-init
 unfolding kind
 loop-kind-init c = refl
 
-pub returns-then-has-code : goal.returns-then-has-code
-returns-then-has-code c = kind_found kinds c.loop-kind.kind-index _ c.args.code.now c.loop-kind-test.true c.if-has-code.ensures ∙ c.loop-kind.invariant
+pub returns-then-has_code : goal.returns-then-has_code
+returns-then-has_code c = kind_found kinds c.loop-kind.kind-index _ c.args.code.now c.loop-kind-test.true c.if-has_code.ensures ∙ c.loop-kind.invariant
 
 pub loop-kind-preserved : goal.loop-kind-preserved
-loop-kind-preserved c = kind_passed kinds c.loop-kind.kind-index _ c.args.code.now c.loop-kind-test.true c.if-has-code.ensures ∙ c.loop-kind.invariant
+loop-kind-preserved c = kind_passed kinds c.loop-kind.kind-index _ c.args.code.now c.loop-kind-test.true c.if-has_code.ensures ∙ c.loop-kind.invariant
 
 pub returns : goal.returns
 returns c = sym (kind_none kinds c.loop-kind.kind-index c.args.code.now c.loop-kind-test.false) ∙ c.loop-kind.invariant

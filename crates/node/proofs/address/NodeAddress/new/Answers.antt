@@ -4,17 +4,17 @@ use Rattle.node.specs.Padded.{padded_front}
 use Rattle.node.proofs.Made.{some_address, no_address}
 use Rattle.node.proofs.address.NodeAddress.new.Goals as goal
 
-pub invariant-of-result : goal.invariant-of-result
-invariant-of-result c =
-    (padded_formed c.args.host.now c.padded.result (sym c.if-not-is-host.ensures) c.padded.ensures, tt)
+pub invariant_of-result : goal.invariant_of-result
+invariant_of-result c =
+    record { formed = padded_formed c.args.host.now c.padded.result (sym c.if-not-is_host.ensures) c.padded.ensures }
 
-pub returns-then-not-is-host : goal.returns-then-not-is-host
-returns-then-not-is-host c =
-    let form = c.if-not-is-host.ensures in
+pub returns-then-not-is_host : goal.returns-then-not-is_host
+returns-then-not-is_host c =
+    let form = c.if-not-is_host.ensures in
     record { form = form; value = tt; made = no_address c.args.host.now c.args.port (sym form) }
 
 pub returns : goal.returns
 returns c =
-    let form = sym c.if-not-is-host.ensures in
+    let form = sym c.if-not-is_host.ensures in
     let front = padded_front c.args.host.now c.padded.result c.padded.ensures in
     record { form = sym form; value = (front, refl); made = some_address c.args.host.now c.args.port _ form front refl }

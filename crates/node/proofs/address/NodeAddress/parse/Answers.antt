@@ -9,7 +9,7 @@ use Rattle.node.proofs.address.NodeAddress.parse.Goals as goal
 pub returns : goal.returns
 returns c =
     let text = c.args.text.now in
-    let split = c.in-ok-host.field-0 in
-    let told = c.in-ok-host.ensures in
+    let split = c.in_ok-host.field-0 in
+    let told = c.in_ok-host.ensures in
     let e = parsed text (take (split.host - 0) text) split c.new.result (ap (λ n. take n text) (sub-zero split.host)) told.answer told.value c.new.ensures.form c.new.ensures.value in
     record { value = e; answer = right_answer text (option_map name_of c.new.result) e }

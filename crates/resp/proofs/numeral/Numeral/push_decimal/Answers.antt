@@ -1,4 +1,4 @@
-use Rattle.std.proofs.Common.{◌/◌, ◌++◌, drop, decimal, sym, refl, ap, ◌∙◌, arith}
+use Rattle.std.proofs.Common.{◌/◌, ◌++◌, drop, decimal, refl, ap, ◌∙◌, arith}
 use Rattle.resp.proofs.Numerals.{room_for, step_text, step_length, some_digits, last_text, last_length}
 use Rattle.resp.proofs.numeral.Numeral.push_decimal.Goals as goal
 

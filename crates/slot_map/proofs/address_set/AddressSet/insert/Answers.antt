@@ -5,8 +5,8 @@ use Rattle.ordered.proofs.Owners.{inserted_table, inserted_ascends}
 use Rattle.slot_map.proofs.Tables.{length_put_absent}
 use Rattle.slot_map.proofs.address_set.AddressSet.insert.Goals as goal
 
-pub invariant-of-self : goal.invariant-of-self
-invariant-of-self c =
+pub invariant_of-self : goal.invariant_of-self
+invariant_of-self c =
     let set = c.args.self.now in
     let within : set.count ≤ length set.items = omega (arith, set.few, set.all) in
     let all : length c.insert.new.entries ≡ 64 = omega (arith, c.insert.auto.entries, set.all) in

@@ -7,8 +7,8 @@ use Rattle.slot_map.specs.Sets.{set_of}
 use Rattle.slot_map.proofs.Tables.{primary_first}
 use Rattle.slot_map.proofs.address_set.AddressSet.insert_range.Goals as goal
 
-pub returns-in-err-insert : goal.returns-in-err-insert
-returns-in-err-insert c =
-    let refused = c.in-err-insert.ensures in
-    let p = err_from_is_err_and c.from-residual.result c.from-residual.ensures.1 in
-    rw (p.1, p.2) (refused.0, primary_first c.args.only-primaries (range_of c.args.range.now) (set_of c.args.self.now) 64 (subst (λ a. 64 < length (put (λ b. b) address_rank a (set_of c.args.self.now))) c.primary.ensures refused.1))
+pub returns-in_err-insert : goal.returns-in_err-insert
+returns-in_err-insert c =
+    let refused = c.in_err-insert.ensures in
+    let p = err_from_is_err_and c.from_residual.result c.from_residual.ensures.1 in
+    rw (p.1, p.2) (refused.0, primary_first c.args.only_primaries (range_of c.args.range.now) (set_of c.args.self.now) 64 (subst (λ a. 64 < length (put (λ b. b) address_rank a (set_of c.args.self.now))) c.primary.ensures refused.1))

@@ -8,4 +8,4 @@ use Rattle.slot_map.proofs.address_set.methods.all_unique_addresses.Given as goa
 
 abbrev pub invariant-loop-range : goal.invariant-loop-range
 invariant-loop-range l =
-    filled (λ a. a) address_rank (set_of l.set) (flat_map (wanted l.only-primaries) (map range_of (drop l.range-index l.ranges))) ≡ addresses l.only-primaries (map range_of l.ranges)
+    filled (λ a. a) address_rank (set_of l.set) (flat_map (wanted l.only_primaries) (map range_of (drop l.range-index l.ranges))) ≡ addresses l.only_primaries (map range_of l.ranges)

@@ -7,8 +7,8 @@ use Rattle.slot_map.proofs.Insertions.{map_put}
 use Rattle.slot_map.proofs.slot_range_map.SlotRangeMap.insert.Goals as goal
 use Rattle.std.specs.Ordering.{nat_cmp}
 
-pub invariant-of-self : goal.invariant-of-self
-invariant-of-self c =
+pub invariant_of-self : goal.invariant_of-self
+invariant_of-self c =
     let map = c.args.self.now in
     let within : map.count ≤ length map.ranges = omega (arith, map.few, map.all) in
     let all : length c.insert.new.entries ≡ 256 = omega (arith, c.insert.auto.entries, map.all) in

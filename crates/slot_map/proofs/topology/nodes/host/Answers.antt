@@ -2,9 +2,9 @@ use Rattle.std.proofs.Common.{rules}
 use Rattle.slot_map.specs.Front.{Begins}
 use Rattle.slot_map.proofs.topology.nodes.host.Goals as goal
 
-pub returns-in-err-place : goal.returns-in-err-place
+pub returns-in_err-place : goal.returns-in_err-place
 unfolding Begins
-returns-in-err-place c = search rules
+returns-in_err-place c = search rules
 
 pub returns-in-Bulk : goal.returns-in-Bulk
 unfolding Begins
@@ -14,6 +14,6 @@ pub returns-in-Nil : goal.returns-in-Nil
 unfolding Begins
 returns-in-Nil c = search rules
 
-pub returns-in-default : goal.returns-in-default
+pub returns-in_default : goal.returns-in_default
 unfolding Begins
-returns-in-default c = search rules
+returns-in_default c = search rules

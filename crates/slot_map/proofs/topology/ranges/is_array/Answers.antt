@@ -9,9 +9,9 @@ returns-in-Array c v rest begins =
     let elements = kind 6 c.args.bytes.now rest v begins c.in-Some.token (Array c.in-Array.field-0) c.in-Some.ensures.value c.in-Array.is in
     sym (ap (λ w. is_some (array_of w)) elements.is)
 
-pub returns-in-default : goal.returns-in-default
-returns-in-default c v rest begins =
-    sym (ap is_some (no_array 6 c.args.bytes.now rest v begins c.in-Some.token c.in-Some.ensures.value c.in-default.not-Array))
+pub returns-in_default : goal.returns-in_default
+returns-in_default c v rest begins =
+    sym (ap is_some (no_array 6 c.args.bytes.now rest v begins c.in-Some.token c.in-Some.ensures.value c.in_default.not-Array))
 
 pub returns-in-None : goal.returns-in-None
 returns-in-None c v rest begins = absurd (no_token 6 c.args.bytes.now rest v begins c.in-None.ensures.value)

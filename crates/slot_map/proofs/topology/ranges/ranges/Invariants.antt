@@ -7,4 +7,4 @@ use Rattle.slot_map.proofs.topology.ranges.ranges.Given as goal
 abbrev pub invariant-loop-i : goal.invariant-loop-i
 invariant-loop-i l =
     (l.at ≤ length l.answer)
-    × ((v : Value) (behind : List ℕ) → Begins 8 l.answer v behind → Sofar l.answering l.count l.-i l.at l.listed l.answer l.slots v behind)
+    × ((v : Value) (behind : List ℕ) → Begins 8 l.answer v behind → Sofar l.answering l.count l._i l.at l.listed l.answer l.slots v behind)

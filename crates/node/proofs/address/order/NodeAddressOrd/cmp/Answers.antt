@@ -1,6 +1,9 @@
+use Rattle.std.proofs.Common.{◌≡◌, rules}
+use Rattle.node.specs.Ranks.{address_rank}
 use Rattle.node.proofs.Compared.{ranked}
 use Rattle.node.proofs.address.order.NodeAddressOrd.cmp.Goals as goal
 
-pub returns : goal.returns
-returns c =
-    ranked c.args.self.now c.args.other.now c.host.result.now c.host-2.result.now c.host.ensures c.host-2.ensures c.cmp-by-host.result c.cmp.result c.then.result c.cmp-by-host.ensures c.cmp.ensures c.then.ensures
+pub returns-clause-order : goal.returns-clause-order
+returns-clause-order c =
+    let told : c.then.result ≡ address_rank c.args.self.now c.args.other.now = search rules in
+    ranked c.args.self.now c.args.other.now c.then.result told

@@ -1,6 +1,6 @@
 use Rattle.resp.specs.Reading.{value}
 use Rattle.probe.proofs.Lengths.{length_told, some_bytes}
-use Rattle.probe.proofs.values.resp_value_len.Goals as goal
+use Rattle.probe.proofs.resp_value_len.Goals as goal
 
 pub returns-in-Some : goal.returns-in-Some
 returns-in-Some c =

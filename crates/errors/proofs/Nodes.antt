@@ -1,14 +1,14 @@
 -- From the places of words to the node that they name.
-use Rattle.std.proofs.Common.{◌≡◌, ℕ, ◌+◌, ◌-◌, ◌^◌, ◌<◌, ◌≤◌, true, false, cond, List, [], ◌∷◌, length, get_or, take, drop, Some, None, Option, sym, refl, ap, ◌∙◌, arith, length-drop, length-take}
+use Rattle.std.proofs.Common.{◌≡◌, ℕ, ◌+◌, ◌-◌, ◌^◌, ◌≤◌, List, [], ◌∷◌, length, get_or, take, drop, Some, None, Option, sym, refl, ap, ◌∙◌, arith, length-drop, length-take}
 use Rattle.std.proofs.lemmas.List.{take-take, take_rest, drop-take, drop-drop}
 use Rattle.std.proofs.lemmas.Bool.Decides.{nat_tests}
-use Rattle.node.specs.Named.{Named, parted}
+use Rattle.node.specs.Named.{parted}
 use Rattle.node.specs.Text.{readable}
 use Rattle.node.specs.declared.split.Split.{Split}
 use Rattle.resp.specs.Number.{natural, below}
 use Rattle.resp.specs.Told.{part, Inside}
 use Rattle.resp.specs.declared.place.Place.{Place}
-use Rattle.errors.specs.Redirection.{small, slot, behind_slot, node, told, Fits}
+use Rattle.errors.specs.Redirection.{small, slot, behind_slot, node, told}
 use Rattle.errors.specs.Words.{first_word, behind_word}
 
 small_below : (o : Option ℕ) → small (below (2 ^ 64) o) ≡ small o

@@ -1,5 +1,5 @@
 -- Where an error sends its command: the second word of the detail, behind a slot's number.
-use Rattle.std.specs.Prelude.{ℕ, ◌≤◌, cond, List, [], ◌∷◌, Some, None, Option, ◌==◌, nat_le}
+use Rattle.std.specs.Prelude.{ℕ, cond, List, [], ◌∷◌, Some, None, Option, ◌==◌, nat_le}
 use Rattle.node.specs.Named.{Named}
 use Rattle.node.specs.Text.{readable}
 use Rattle.resp.specs.Number.{natural}

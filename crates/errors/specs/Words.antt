@@ -1,5 +1,5 @@
 -- How an error's text falls into words.
-use Rattle.std.specs.Prelude.{ℕ, suc, ◌+◌, Bool, cond, not, ◌||◌, List, [], ◌∷◌, take, drop, Some, None, Option, ◌==◌}
+use Rattle.std.specs.Prelude.{ℕ, suc, Bool, cond, not, ◌||◌, List, [], ◌∷◌, take, drop, Some, None, Option, ◌==◌}
 use Rattle.errors.specs.declared.words.Run.{Run}
 use Rattle.errors.specs.declared.words.Run.TheVariants.{Code, White, Word}
 

@@ -25,7 +25,7 @@ const CODES: [(&[u8], &str, &str); 14] = [
 fn knows_each_code(rt: HostRuntime) -> Result<(), Fail> {
     for (code, name, method) in CODES {
         let kind = ServerErrorKind::from_code(code).ok_or(name)?;
-        assert!(rt; kind.code() == code, "{}", name);
+        assert!(rt; kind.code() == code, "{}", kind.name());
         assert_eq!(rt; kind.name(), name);
         assert_eq!(rt; Refusal::Server(kind).retry_method().name(), method);
     }
@@ -81,7 +81,7 @@ fn redirects_to_a_readable_address(rt: HostRuntime) -> Result<(), Fail> {
     let Some(Redirect::Moved(moved)) = Redirect::read(text) else {
         return Err(Fail::new("a redirect for good"));
     };
-    assert!(rt; moved.host.text(text) == b"127.0.0.1");
+    assert!(rt; moved.host.text(text) == b"127.0.0.1".as_slice());
     let Some(address) = moved.address(text) else {
         return Err(Fail::new("an address"));
     };

@@ -1,6 +1,5 @@
 use Rattle.std.proofs.Common.{sym, refl, ◌∙◌}
 use Rattle.errors.specs.Codes.{kind, kinds}
-use Rattle.errors.specs.declared.server_error.ServerErrorKind.TheVariants.{ResponseError}
 use Rattle.errors.proofs.Named.{kind_found, kind_passed, kind_none}
 use Rattle.errors.proofs.server_error.ServerErrorKind.from_code.Goals as goal
 

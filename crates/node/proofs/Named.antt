@@ -2,7 +2,7 @@
 use Rattle.std.proofs.Common.{◌≡◌, ℕ, true, leb, List, [], ◌∷◌, length, take, is_some, IfSome, Some, None, Option, refl, ap, ◌∙◌}
 use Rattle.std.proofs.lemmas.Bool.{false≢true, and_from, le-leb}
 use Rattle.std.specs.Option.{option_map}
-use Rattle.std.specs.List.{AllByRecursion as All}
+use Rattle.std.specs.List.{AllByRecursion}
 use Rattle.node.specs.Address.{host_of, name_of}
 use Rattle.node.specs.Host.{visible, all_visible, host_form}
 use Rattle.node.specs.Named.{parted}
@@ -11,7 +11,7 @@ use Rattle.node.specs.Text.{readable}
 use Rattle.node.specs.declared.address.NodeAddress.{NodeAddress}
 use Rattle.node.specs.declared.split.Split.{Split}
 
-visible_all : (bs : List ℕ) → All HostByte bs → all_visible bs ≡ true
+visible_all : (bs : List ℕ) → AllByRecursion HostByte bs → all_visible bs ≡ true
 visible_all [] h = refl
 visible_all (b ∷ bs) h =
     and_from (visible b) (all_visible bs) (and_from (leb 0x21 b) (leb b 0x7E) (le-leb 0x21 b h.0.0) (le-leb b 0x7E h.0.1)) (visible_all bs h.1)

@@ -7,7 +7,7 @@ use Rattle.std.proofs.lemmas.Bool.{false≢true, and_parts, and_from, leb-true, 
 use Rattle.std.proofs.lemmas.Bool.Decides.{nat_tests}
 use Rattle.std.specs.Option.{option_map}
 use Rattle.std.specs.Char.{is_ascii_digit}
-use Rattle.std.specs.List.{AllByRecursion as All}
+use Rattle.std.specs.List.{AllByRecursion}
 use Rattle.std.specs.Str.{all_ascii_digits}
 use Rattle.node.specs.Named.{Named}
 use Rattle.node.specs.Port.{number, port_on, port_of}
@@ -69,7 +69,7 @@ byte_plain : (b : ℕ) → HostByte b → plain b ≡ true
 byte_plain b h = grind (arith, nat_tests)
 
 module _ (x : ℕ) (xs : List ℕ) where
-  front_one : (t : Bool) → plain x ≡ t → All HostByte (take (host_len xs) xs) → All HostByte (take (cond t (suc (host_len xs)) 0) (x ∷ xs))
+  front_one : (t : Bool) → plain x ≡ t → AllByRecursion HostByte (take (host_len xs) xs) → AllByRecursion HostByte (take (cond t (suc (host_len xs)) 0) (x ∷ xs))
   front_one true e h = (plain_byte x e, h)
   front_one false e h = tt
 
@@ -77,7 +77,7 @@ module _ (x : ℕ) (xs : List ℕ) where
   within_one true h = omega arith
   within_one false h = omega arith
 
-front_plain : (bs : List ℕ) → All HostByte (take (host_len bs) bs)
+front_plain : (bs : List ℕ) → AllByRecursion HostByte (take (host_len bs) bs)
 front_plain [] = tt
 front_plain (x ∷ xs) = front_one x xs (plain x) refl (front_plain xs)
 
@@ -85,7 +85,7 @@ pub front_within : (bs : List ℕ) → host_len bs ≤ length bs
 front_within [] = omega arith
 front_within (x ∷ xs) = within_one x xs (plain x) (front_within xs)
 
-front_is : (host rest : List ℕ) → All HostByte host → host_len (host ++ (0x3A ∷ rest)) ≡ length host
+front_is : (host rest : List ℕ) → AllByRecursion HostByte host → host_len (host ++ (0x3A ∷ rest)) ≡ length host
 front_is [] rest h = refl
 front_is (x ∷ xs) rest h =
     ap (λ t. cond t (suc (host_len (xs ++ (0x3A ∷ rest)))) 0) (byte_plain x h.0) ∙ ap suc (front_is xs rest h.1)

@@ -1,6 +1,6 @@
 -- The rule for a text that names an address, in its own words.
 use Rattle.std.specs.Prelude.{◌≡◌, ℕ, ◌≤◌, ◌≢◌, List, ◌∷◌, ◌++◌, length, Some, None, decimal, Option}
-use Rattle.std.specs.List.{AllByRecursion as All}
+use Rattle.std.specs.List.{AllByRecursion}
 use Rattle.node.specs.Named.{Named}
 
 -- from 0x21 to 0x7E, and no colon, `[` or `]`
@@ -12,7 +12,7 @@ pub record Readable (text host : List ℕ) (port : ℕ) : Type 0 where
   pub written : text ≡ host ++ (0x3A ∷ decimal port)
   pub some : 1 ≤ length host
   pub short : length host ≤ 64
-  pub plain : All HostByte host
+  pub plain : AllByRecursion HostByte host
   pub low : 1 ≤ port
   pub high : port ≤ 65535
 

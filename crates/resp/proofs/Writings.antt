@@ -7,7 +7,7 @@ use Rattle.std.proofs.lemmas.List.{drop-drop, drop_at, take_at, length-take-le}
 use Rattle.std.proofs.lemmas.Str.Parse.{IsNumeralModel, numerals_by_fold, tells_all_ascii_digits}
 use Rattle.std.proofs.lemmas.Bool.{lt-ltb, le-leb, ltb-true, leb-true, leb-false, and_parts, false≢true}
 use Rattle.std.proofs.lemmas.Bool.Decides.{nat_tests}
-use Rattle.std.specs.Fmt as std
+use Rattle.std.specs.Fmt as fmt
 use Rattle.std.specs.Str.{all_ascii_digits}
 use Rattle.resp.proofs.Readings.{value_complete}
 use Rattle.resp.specs.Number.{digit, digits, natural, positive, negative, signed}
@@ -52,8 +52,8 @@ digits_fold n (c ∷ cs) h =
     let both = and_parts (digit c) (all_ascii_digits cs) h in
     ap (λ b. cond b (digits (10 * n + (c - 48)) cs) None) both.0 ∙ digits_fold (10 * n + (c - 48)) cs both.1
 
-pub natural_decimal : (n : ℕ) → n < 2 ^ 64 → natural (std.decimal n) ≡ Some n
-natural_decimal n small = go (std.decimal n) (decimal_nonempty n small) (digits_decimal own n small) ∙ ap Some (digits_value-decimal own n small)
+pub natural_decimal : (n : ℕ) → n < 2 ^ 64 → natural (fmt.decimal n) ≡ Some n
+natural_decimal n small = go (fmt.decimal n) (decimal_nonempty n small) (digits_decimal own n small) ∙ ap Some (digits_value-decimal own n small)
   where
     go : (ds : List ℕ) → 0 < length ds → all_ascii_digits ds ≡ true → natural ds ≡ Some (read_on 0 ds)
     go [] l h = absurd (omega arith)
@@ -71,8 +71,8 @@ unsigned (c ∷ cs) n e = go (digit c) refl e
         rw (minus, plus) (ap positive e)
     go false d f = let z : ◌≡◌ {A = ℕ} 0 1 = cc in absurd (omega arith)
 
-signed_back : (z : ℤ) → mag z < 2 ^ 63 → signed (std.signed_decimal z) ≡ Some z
-signed_back (pos n) h = unsigned (std.decimal n) n (natural_decimal n (omega arith)) ∙ ap (λ b. cond b (Some (pos n)) None) (lt-ltb n (2 ^ 63) h)
+signed_back : (z : ℤ) → mag z < 2 ^ 63 → signed (fmt.signed_decimal z) ≡ Some z
+signed_back (pos n) h = unsigned (fmt.decimal n) n (natural_decimal n (omega arith)) ∙ ap (λ b. cond b (Some (pos n)) None) (lt-ltb n (2 ^ 63) h)
 signed_back (negsuc n) h = ap negative (natural_decimal (suc n) (omega arith)) ∙ ap (λ b. cond b (Some (negsuc n)) None) (le-leb (suc n) (2 ^ 63) h)
 
 -- what was written reads back
@@ -80,10 +80,10 @@ reads_back : (v : Value) (text : List ℕ) → Stands v text → ReadsBack v tex
 reads_back v text s = (s, λ d rest h. value_complete d text rest v s h)
 
 pub bulk_back : (t : List ℕ) → length t < 2 ^ 64 → ReadsBack (bulk_string t) (bulk_text t)
-bulk_back t h = reads_back (bulk_string t) (bulk_text t) (std.decimal (length t), natural_decimal (length t) h, refl)
+bulk_back t h = reads_back (bulk_string t) (bulk_text t) (fmt.decimal (length t), natural_decimal (length t) h, refl)
 
 pub integer_back : (z : ℤ) → mag z < 2 ^ 63 → ReadsBack (integer z) (integer_text z)
-integer_back z h = reads_back (integer z) (integer_text z) (std.signed_decimal z, signed_back z h, refl)
+integer_back z h = reads_back (integer z) (integer_text z) (fmt.signed_decimal z, signed_back z h, refl)
 
 pub nil_back : ReadsBack null nil_text
 nil_back = reads_back null nil_text (inl refl)
@@ -91,19 +91,19 @@ nil_back = reads_back null nil_text (inl refl)
 pub array_back : (n : ℕ) → n < 2 ^ 64 → Heads n
 array_back n h vs es e f =
     reads_back (array vs) (array_text n ++ es)
-    (std.decimal n, es, natural_decimal n h ∙ ap Some (sym e), ap (λ l. 42 ∷ l) (append_assoc (std.decimal n) crlf es), f)
+    (fmt.decimal n, es, natural_decimal n h ∙ ap Some (sym e), ap (λ l. 42 ∷ l) (append_assoc (fmt.decimal n) crlf es), f)
 
 -- a sign in front
-pub signed_below : (z : ℤ) → lt_z z (pos 0) ≡ true → 45 ∷ std.decimal (nat_abs z) ≡ std.signed_decimal z
+pub signed_below : (z : ℤ) → lt_z z (pos 0) ≡ true → 45 ∷ fmt.decimal (nat_abs z) ≡ fmt.signed_decimal z
 signed_below (pos n) h = absurd (omega (arith, ltb-true n 0 h))
 signed_below (negsuc n) h = refl
 
-pub signed_above : (z : ℤ) → lt_z z (pos 0) ≡ false → std.decimal (nat_abs z) ≡ std.signed_decimal z
+pub signed_above : (z : ℤ) → lt_z z (pos 0) ≡ false → fmt.decimal (nat_abs z) ≡ fmt.signed_decimal z
 signed_above (pos n) h = refl
 signed_above (negsuc n) h = absurd (false≢true (sym h))
 
 -- a bulk string in three texts
-module _ (t h : List ℕ) (head : h ≡ 36 ∷ (std.decimal (length t) ++ crlf)) where
+module _ (t h : List ℕ) (head : h ≡ 36 ∷ (fmt.decimal (length t) ++ crlf)) where
   bulk_split : (h ++ t) ++ crlf ≡ bulk_text t
   bulk_split = ap (λ l. (l ++ t) ++ crlf) head ∙ simp append_assoc
 

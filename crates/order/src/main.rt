@@ -4,6 +4,7 @@
 use anyhow::anyhow;
 use report::explain;
 use std::io::Write;
+use std::process::ExitCode;
 use std::{env, fs};
 
 const USAGE: &str = "usage: order explain TAPE    tell what each entry of a tape means
@@ -47,12 +48,12 @@ fn run(rt: &HostRuntime) -> anyhow::Result<()> {
     }
 }
 
-fn main(rt: HostRuntime) -> anyhow::Result<()> {
+fn main(rt: HostRuntime) -> ExitCode {
     match run(&rt) {
-        Ok(()) => Ok(()),
+        Ok(()) => ExitCode::SUCCESS,
         Err(e) => {
             let _ = eprintln!(rt; "order: {e}");
-            Err(e)
+            ExitCode::FAILURE
         }
     }
 }

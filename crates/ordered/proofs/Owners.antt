@@ -1,8 +1,8 @@
 -- What an insertion leaves, for who owns the slice: a table again.
-use Rattle.std.proofs.Common.{◌≡◌, ℕ, true, List, [], ◌∷◌, map, take, drop, Ok, Err, Option, Result, Ordering, Less, Equal, Greater, sym, refl, ap, ◌∙◌}
+use Rattle.std.proofs.Common.{◌≡◌, ℕ, true, List, take, drop, Ok, Err, Option, Result, Ordering, sym, ap, ◌∙◌}
 use Rattle.std.proofs.lemmas.List.{take_at}
 use Rattle.ordered.specs.Edits.{Inserted}
-use Rattle.ordered.specs.Table.{by, ascending, put}
+use Rattle.ordered.specs.Table.{ascending, put}
 use Rattle.ordered.specs.declared.edits.Full.{Full}
 
 module _ {E K : Type 0} (key : E → K) (rank : K → K → Ordering) (e : E) (old : List E) (n : ℕ) (new : List E) (m : ℕ) where

@@ -1,17 +1,16 @@
 -- The orders of the keys are total.
-use Rattle.std.proofs.lemmas.Bool.{false≢true}
 use Rattle.std.specs.Prelude.{◌≡◌, ℕ, ◌<◌, refl}
 use Rattle.std.specs.declared.cmp.Ordering.TheVariants.{Less, Equal, Greater}
 use Rattle.std.specs.declared.cmp.Ordering.{Ordering}
 use Rattle.std.proofs.Common.{sym, ap, subst}
-use Rattle.std.specs.Cmp.{IsTotalOrder as Lawful, nat_cmp_total, ranks}
+use Rattle.std.proofs.lemmas.Cmp.{nat_cmp_total, nat_list_cmp_total, on_total}
+use Rattle.std.proofs.lemmas.Bool.{false≢true}
+use Rattle.std.specs.Cmp.{IsTotalOrder as Lawful, ranks}
 use Rattle.std.specs.Ordering.{MatchOrdering, is_lt, ordering_reverse, nat_cmp}
-use Rattle.std.specs.OwnedKeys.{by}
 use Rattle.node.specs.Order.{Below}
 use Rattle.node.specs.Ranks.{address_rank, address_ranks, addresses}
 use Rattle.ordered.specs.ByteKeys.{bytes_of, byte_key_rank, byte_key_ranks, KeyBefore}
 use Rattle.ordered.specs.Total.{Total}
-use Rattle.std.specs.Cmp.Lexicographic.{lists_total}
 
 unturned : (o : Ordering) → o ≡ ordering_reverse o → o ≡ Equal
 unturned Less e = absurd (false≢true (ap is_lt (sym e)))
@@ -19,10 +18,10 @@ unturned Equal e = refl
 unturned Greater e = absurd (false≢true (ap is_lt e))
 
 -- a lawful order, as std says it, that ranks by L
-pub total_by : {K : Type 0} {R : K → K → Ordering → Type 0} (lawful : Lawful R) (L : K → K → Type 0) → ((x y : K) → MatchOrdering (R x y) (L x y) (x ≡ y) (L y x)) → Total R
-total_by lawful L ranks = record {
+pub total_by : {K : Type 0} {R : K → K → Ordering} (lawful : Lawful R) (L : K → K → Type 0) → ((x y : K) → MatchOrdering (R x y) (L x y) (x ≡ y) (L y x)) → Total R
+total_by {R = R} lawful L ranks = record {
   same = λ x y e. subst (λ o. MatchOrdering o (L x y) (x ≡ y) (L y x)) e (ranks x y);
-  itself = λ x. unturned (lawful.cmp x x) (lawful.antisymm x x);
+  itself = λ x. unturned (R x x) (lawful.antisymm x x);
   turned = lawful.antisymm;
   chained = lawful.trans;
 }
@@ -34,4 +33,4 @@ pub numbers_total : Total nat_cmp
 numbers_total = total_by nat_cmp_total (λ (x y : ℕ). x < y) ranks
 
 pub byte_keys_total : Total byte_key_rank
-byte_keys_total = total_by (by bytes_of (lists_total nat_cmp_total)) KeyBefore byte_key_ranks
+byte_keys_total = total_by (on_total bytes_of nat_list_cmp_total) KeyBefore byte_key_ranks

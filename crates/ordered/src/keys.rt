@@ -1,5 +1,3 @@
 mod address;
 mod bytes;
 mod slot;
-
-use crate::keys::address::Key;

@@ -15,7 +15,6 @@ mod search;
 #[cfg(test)]
 mod tests;
 
-use crate::keys::address::Key as _;
 pub use byte_key::ByteKey;
 pub use edits::{Full, insert, remove};
 pub use entry::{Entry, Key};

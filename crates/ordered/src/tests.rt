@@ -1,4 +1,4 @@
-use crate::{ByteKey, Entry, Key, Key as _, find, insert, remove};
+use crate::{ByteKey, Entry, Key, find, insert, remove};
 use std::cmp::Ordering;
 use std::process::Abort;
 use std::test::Fail;

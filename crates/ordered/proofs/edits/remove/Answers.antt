@@ -12,7 +12,7 @@ returns-in-Ok g c =
     record {
       within = λ h. omega arith;
       removed = λ table.
-          let same = all_of_it g.E.Entry.keyed g.Key-as-Key.ranks old n m table c.min-n.ensures in
-          let found = found_in_front g.E.Entry.keyed g.Key-as-Key.ranks old n m table c.min-n.ensures k k (Ok c.in-Ok.at) refl c.in-Ok.ensures.found in
-          taken_out g.E.Entry.keyed g.Key-as-Key.ranks g.Key-as-Key.total k old n table m c.in-Ok.at c.index-entries-at.result c.move_down.new.entries same found c.index-entries-at.is c.move_down.ensures;
+          let same = all_of_it g.E.Entry.keyed g.E.Key.Key.ranks old n m table c.min-n.ensures in
+          let found = found_in_front g.E.Entry.keyed g.E.Key.Key.ranks old n m table c.min-n.ensures k k (Ok c.in-Ok.at) refl c.in-Ok.ensures.found in
+          taken_out g.E.Entry.keyed g.E.Key.Key.ranks g.E.Key.Key.total k old n table m c.in-Ok.at c.index-entries-at.result c.move_down.new.entries same found c.index-entries-at.is c.move_down.ensures;
     }

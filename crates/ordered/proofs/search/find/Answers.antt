@@ -12,7 +12,7 @@ returns-then-size-eq0 g c = record {
     omega arith,
     (λ i d low high. absurd (omega arith)),
     (λ i d low high. absurd (omega arith)),
-    lookup_absent g.E.Entry.keyed g.Key-as-Key.ranks c.args.key.now c.args.table.now 0 (λ i d low high. absurd (omega arith)) (λ i d low high. absurd (omega arith)),
+    lookup_absent g.E.Entry.keyed g.E.Key.Key.ranks c.args.key.now c.args.table.now 0 (λ i d low high. absurd (omega arith)) (λ i d low high. absurd (omega arith)),
   );
 }
 
@@ -33,7 +33,7 @@ loop-size-preserved g c =
       omega (arith, stays, c.loop-size.invariant.1),
       λ sorted. (
         λ i d low high. (c.loop-size.invariant.2 sorted).0 i d low (omega (arith, stays)),
-        λ i d low high. from_above g.E.Entry.keyed g.Key-as-Key.ranks g.Key-as-Key.total xs k sorted mid within x c.index-table-mid.is c.is_above.result c.is_above.ensures above i d (omega (arith, stays)) high,
+        λ i d low high. from_above g.E.Entry.keyed g.E.Key.Key.ranks g.E.Key.Key.total xs k sorted mid within x c.index-table-mid.is c.is_above.result c.is_above.ensures above i d (omega (arith, stays)) high,
       ),
     ))
     (λ (not-above : c.is_above.result ≡ false).
@@ -41,7 +41,7 @@ loop-size-preserved g c =
       omega arith,
       omega (arith, moves, c.loop-size.invariant.1),
       λ sorted. (
-        λ i d low high. before_not_above g.E.Entry.keyed g.Key-as-Key.ranks g.Key-as-Key.total xs k sorted mid within x c.index-table-mid.is c.is_above.result c.is_above.ensures not-above i d low (omega (arith, moves)),
+        λ i d low high. before_not_above g.E.Entry.keyed g.E.Key.Key.ranks g.E.Key.Key.total xs k sorted mid within x c.index-table-mid.is c.is_above.result c.is_above.ensures not-above i d low (omega (arith, moves)),
         λ i d low high. (c.loop-size.invariant.2 sorted).1 i d (omega (arith, moves)) high,
       ),
     ))
@@ -53,13 +53,13 @@ returns-in-Less g c =
     let k = c.args.key.now in
     let base = c.loop-size.base in
     let within : base < length xs = omega (arith, c.loop-size.invariant.0, c.loop-size.invariant.1) in
-    let less = compared g.E.Entry.keyed g.Key-as-Key.ranks xs base c.index-table-base.result c.key.result.now k Less within c.index-table-base.is c.key.ensures c.in-Less.ensures in
+    let less = compared g.E.Entry.keyed g.E.Key.Key.ranks xs base c.index-table-base.result c.key.result.now k Less within c.index-table-base.is c.key.ensures c.in-Less.ensures in
     record {
       within = omega arith;
       found = λ sorted.
-          let before = up_to_less g.E.Entry.keyed g.Key-as-Key.ranks g.Key-as-Key.total xs k sorted base within less in
-          let behind = from_later g.E.Entry.keyed g.Key-as-Key.ranks Greater xs k (base + c.loop-size.size) (base + 1) (length xs) (omega (arith, c.loop-size-test.false)) (c.loop-size.invariant.2 sorted).1 in
-          (omega arith, before, behind, lookup_absent g.E.Entry.keyed g.Key-as-Key.ranks k xs (base + 1) before behind);
+          let before = up_to_less g.E.Entry.keyed g.E.Key.Key.ranks g.E.Key.Key.total xs k sorted base within less in
+          let behind = from_later g.E.Entry.keyed g.E.Key.Key.ranks Greater xs k (base + c.loop-size.size) (base + 1) (length xs) (omega (arith, c.loop-size-test.false)) (c.loop-size.invariant.2 sorted).1 in
+          (omega arith, before, behind, lookup_absent g.E.Entry.keyed g.E.Key.Key.ranks k xs (base + 1) before behind);
     }
 
 pub returns-in-Equal : goal.returns-in-Equal
@@ -68,12 +68,12 @@ returns-in-Equal g c =
     let k = c.args.key.now in
     let base = c.loop-size.base in
     let within : base < length xs = omega (arith, c.loop-size.invariant.0, c.loop-size.invariant.1) in
-    let equal = compared g.E.Entry.keyed g.Key-as-Key.ranks xs base c.index-table-base.result c.key.result.now k Equal within c.index-table-base.is c.key.ensures c.in-Equal.ensures in
+    let equal = compared g.E.Entry.keyed g.E.Key.Key.ranks xs base c.index-table-base.result c.key.result.now k Equal within c.index-table-base.is c.key.ensures c.in-Equal.ensures in
     record {
       within = within;
       found = λ sorted.
           let before = (c.loop-size.invariant.2 sorted).0 in
-          (within, before, equal, lookup_there g.E.Entry.keyed g.Key-as-Key.ranks k xs base within before equal);
+          (within, before, equal, lookup_there g.E.Entry.keyed g.E.Key.Key.ranks k xs base within before equal);
     }
 
 pub returns-in-Greater : goal.returns-in-Greater
@@ -82,11 +82,11 @@ returns-in-Greater g c =
     let k = c.args.key.now in
     let base = c.loop-size.base in
     let within : base < length xs = omega (arith, c.loop-size.invariant.0, c.loop-size.invariant.1) in
-    let greater = compared g.E.Entry.keyed g.Key-as-Key.ranks xs base c.index-table-base.result c.key.result.now k Greater within c.index-table-base.is c.key.ensures c.in-Greater.ensures in
+    let greater = compared g.E.Entry.keyed g.E.Key.Key.ranks xs base c.index-table-base.result c.key.result.now k Greater within c.index-table-base.is c.key.ensures c.in-Greater.ensures in
     record {
       within = omega arith;
       found = λ sorted.
           let before = (c.loop-size.invariant.2 sorted).0 in
-          let behind = from_greater g.E.Entry.keyed g.Key-as-Key.ranks g.Key-as-Key.total xs k sorted base within greater in
-          (omega arith, before, behind, lookup_absent g.E.Entry.keyed g.Key-as-Key.ranks k xs base before behind);
+          let behind = from_greater g.E.Entry.keyed g.E.Key.Key.ranks g.E.Key.Key.total xs k sorted base within greater in
+          (omega arith, before, behind, lookup_absent g.E.Entry.keyed g.E.Key.Key.ranks k xs base before behind);
     }

@@ -6,7 +6,7 @@ use Rattle.ordered.proofs.byte_key.ByteKey.new.Goals as goal
 pub invariant_of-result : goal.invariant_of-result
 invariant_of-result c =
     let bytes = c.args.bytes.now in
-    (bytes_padded bytes c.copy_from_slice.new.self (length bytes - 0) c.copy_from_slice.ensures.after (omega arith) (omega arith), tt)
+    record { formed = bytes_padded bytes c.copy_from_slice.new.self (length bytes - 0) c.copy_from_slice.ensures.after (omega arith) (omega arith) }
 
 pub returns : goal.returns
 returns c =

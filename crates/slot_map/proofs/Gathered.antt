@@ -4,7 +4,7 @@ use Rattle.std.proofs.lemmas.List.{length-take}
 use Rattle.std.specs.Option.{option_map, option_to_list}
 use Rattle.resp.specs.Reading.{head, value}
 use Rattle.resp.specs.Told.{told, seen, told_walk}
-use Rattle.resp.specs.Value.{Value, Values, none, more}
+use Rattle.resp.specs.Value.{Value, Values}
 use Rattle.resp.specs.declared.place.Head.TheVariants.{Array}
 use Rattle.resp.specs.declared.place.Token.{Token}
 use Rattle.resp.specs.declared.place.Walk.{Walk}

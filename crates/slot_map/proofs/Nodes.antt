@@ -1,6 +1,6 @@
 -- A node: its host, its port, and more.
 use Rattle.std.proofs.Common.{◌≡◌, ℕ, zero, suc, ◌<◌, List, Some, None, sym, ap, ◌∙◌, arith}
-use Rattle.resp.specs.Value.{Value, array, Values, more}
+use Rattle.resp.specs.Value.{Value, Values, more}
 use Rattle.slot_map.specs.Answer.{array_of, host, port, located, node_of, node}
 use Rattle.slot_map.specs.Front.{Follow}
 use Rattle.slot_map.proofs.Elements.{Elements, next, none_left, Fields}

@@ -8,7 +8,7 @@ use Rattle.node.specs.Ranks.{address_rank}
 use Rattle.node.specs.declared.address.NodeAddress.{NodeAddress}
 use Rattle.std.specs.List.{flat_map}
 use Rattle.slot_map.specs.Range.{Range, range_of}
-use Rattle.slot_map.specs.Table.{filled, table, wanted, few, listable}
+use Rattle.slot_map.specs.Table.{filled, wanted, few, listable}
 use Rattle.slot_map.specs.declared.slot_range.SlotRange.{SlotRange}
 
 module _ {E K : Type 0} (key : E → K) (rank : K → K → Ordering) where

@@ -37,13 +37,13 @@ fn names_each_address_once(rt: HostRuntime) -> Result<(), Fail> {
     let [first, second] = primaries.as_slice() else {
         return Err(Fail::new("two primaries"));
     };
-    assert!(rt; first.host() == b"a");
-    assert!(rt; second.host() == b"b");
+    assert!(rt; first.host() == b"a".as_slice());
+    assert!(rt; second.host() == b"b".as_slice());
     let nodes = map.addresses_for_all_nodes();
     let [_, _, third] = nodes.as_slice() else {
         return Err(Fail::new("three addresses"));
     };
-    assert!(rt; third.host() == b"h", "the host that answered");
+    assert!(rt; third.host() == b"h".as_slice(), "the host that answered");
     assert_eq!(rt; third.port(), 9);
     Ok(())
 }

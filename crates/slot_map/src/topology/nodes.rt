@@ -3,7 +3,7 @@ ghost use Rattle.std.specs.Option.{option_map, option_to_list};
 ghost use Rattle.std.specs.Str.{bytes_eq};
 ghost use Rattle.node.specs.declared.address.NodeAddress.{NodeAddress as Address};
 ghost use Rattle.resp.specs.Value.{Values};
-ghost use Rattle.slot_map.specs.Answer.{unnamed, named as named_of, host as host_of, port as port_of, node as node_of, nodes as nodes_of, served};
+ghost use Rattle.slot_map.specs.Answer.{unnamed, named as answer_named, host as answer_host, port as answer_port, node as answer_node, nodes as answer_nodes, served};
 ghost use Rattle.slot_map.specs.Front.{Front, Follow, Serves};
 ghost use Rattle.slot_map.specs.Range.{range_of};
 
@@ -31,7 +31,7 @@ fn is_unnamed(text: &[u8]) -> bool
 }
 
 fn named<'a>(answering: &'a [u8], text: &'a [u8]) -> Option<&'a [u8]>
-    ensures { option_map (λ x. x.now) result ≡ named_of answering.now text.now }
+    ensures { option_map (λ x. x.now) result ≡ answer_named answering.now text.now }
 {
     if is_unnamed(text) {
         return Some(answering);
@@ -44,7 +44,7 @@ fn named<'a>(answering: &'a [u8], text: &'a [u8]) -> Option<&'a [u8]>
 
 // The host at the front of `bytes`.
 fn host<'a>(bytes: &'a [u8], answering: &'a [u8]) -> Option<&'a [u8]>
-    ensures { Front 5 bytes.now (λ v rest. option_map (λ x. x.now) result ≡ host_of answering.now v) }
+    ensures { Front 5 bytes.now (λ v rest. option_map (λ x. x.now) result ≡ answer_host answering.now v) }
 {
     match token::read(bytes)?.head {
         Head::Bulk(place) => named(answering, place.text(bytes)),
@@ -55,7 +55,7 @@ fn host<'a>(bytes: &'a [u8], answering: &'a [u8]) -> Option<&'a [u8]>
 
 // The port at the front of `bytes`.
 fn port(bytes: &[u8]) -> Option<u16>
-    ensures { Front 5 bytes.now (λ v rest. result ≡ port_of v) }
+    ensures { Front 5 bytes.now (λ v rest. result ≡ answer_port v) }
 {
     match token::read(bytes)?.head {
         Head::Integer(z) => u16::try_from(z).ok(),
@@ -65,7 +65,7 @@ fn port(bytes: &[u8]) -> Option<u16>
 
 // The address of the node at the front of `bytes`, if the node is usable.
 fn node<'a>(bytes: &'a [u8], answering: &'a [u8]) -> Option<NodeAddress>
-    ensures { Front 6 bytes.now (λ v rest. result ≡ node_of answering.now v) }
+    ensures { Front 6 bytes.now (λ v rest. result ≡ answer_node answering.now v) }
 {
     let token = token::read(bytes)?;
     let Head::Array(count) = token.head else {
@@ -109,7 +109,7 @@ pub(crate) fn nodes<'a>(
     end: u16,
     answering: &'a [u8],
 ) -> Result<Option<SlotRange>, Refusal>
-    ensures { (vs : Values) (rest : List ℕ) → Follow 6 count bytes.now vs rest → Serves start end (nodes_of answering.now vs) result }
+    ensures { (vs : Values) (rest : List ℕ) → Follow 6 count bytes.now vs rest → Serves start end (answer_nodes answering.now vs) result }
 {
     let mut range = None;
     let mut at = 0;

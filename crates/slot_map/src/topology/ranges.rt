@@ -1,6 +1,6 @@
 ghost use Rattle.std.specs.Prelude.{◌≡◌, ◌≤◌, List, ◌++◌, length, is_some, IfSome, Ok};
 ghost use Rattle.std.specs.Option.{option_map, option_to_list};
-ghost use Rattle.slot_map.specs.Answer.{slot, array_of, range as range_of, ranges as ranges_of};
+ghost use Rattle.slot_map.specs.Answer.{slot, array_of, range as answer_range, ranges as answer_ranges};
 ghost use Rattle.slot_map.specs.Front.{Front, Ranged};
 ghost use Rattle.slot_map.specs.Bounds.{Bounds};
 ghost use Rattle.slot_map.specs.Range.{Range, range_of};
@@ -61,7 +61,7 @@ fn is_array(bytes: &[u8]) -> bool
 
 // The range at the front of `bytes`, if it is one with a usable node.
 fn range<'a>(bytes: &'a [u8], answering: &'a [u8]) -> Result<Option<SlotRange>, Refusal>
-    ensures { Front 7 bytes.now (λ v rest. Ranged (range_of answering.now v) result) }
+    ensures { Front 7 bytes.now (λ v rest. Ranged (answer_range answering.now v) result) }
 {
     let Some(token) = token::read(bytes) else {
         return Ok(None);
@@ -102,7 +102,7 @@ fn list(slots: &mut SlotRangeMap, listed: usize, range: Option<SlotRange>) -> Re
 
 // The ranges of a readable answer, by their ends.
 pub(crate) fn ranges<'a>(answer: &'a [u8], answering: &'a [u8]) -> Result<SlotRangeMap, Refusal>
-    ensures { Front 8 answer.now (λ v rest. Gathered (ranges_of answering.now v) result) }
+    ensures { Front 8 answer.now (λ v rest. Gathered (answer_ranges answering.now v) result) }
 {
     let mut slots = SlotRangeMap::new();
     let Some(token) = token::read(answer) else {

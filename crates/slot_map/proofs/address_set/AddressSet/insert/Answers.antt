@@ -10,10 +10,12 @@ invariant_of-self c =
     let set = c.args.self.now in
     let within : set.count ≤ length set.items = omega (arith, set.few, set.all) in
     let all : length c.insert.new.entries ≡ 64 = omega (arith, c.insert.auto.entries, set.all) in
-    let few : c.insert.new.count ≤ 64 = omega (arith, c.insert.ensures.within within, set.all) in (
-      all,
-      (few, (inserted_ascends (λ a. a) address_rank c.args.address set.items set.count c.insert.new.entries c.insert.new.count c.insert.result (c.insert.ensures.inserted (within, set.ascends)) set.ascends, tt)),
-    )
+    let few : c.insert.new.count ≤ 64 = omega (arith, c.insert.ensures.within within, set.all) in
+    record {
+      all = all;
+      few = few;
+      ascends = inserted_ascends (λ a. a) address_rank c.args.address set.items set.count c.insert.new.entries c.insert.new.count c.insert.result (c.insert.ensures.inserted (within, set.ascends)) set.ascends;
+    }
 
 pub returns-in-Ok : goal.returns-in-Ok
 returns-in-Ok c =

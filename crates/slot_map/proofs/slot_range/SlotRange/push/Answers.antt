@@ -2,8 +2,8 @@ use Rattle.std.proofs.Common.{◌<◌, length, refl, ap, arith}
 use Rattle.std.proofs.lemmas.List.{length-take, take_more_set}
 use Rattle.slot_map.proofs.slot_range.SlotRange.push.Goals as goal
 
-pub returns-then-self-eq-MOST-REPLICAS : goal.returns-then-self-eq-MOST-REPLICAS
-returns-then-self-eq-MOST-REPLICAS c =
+pub returns-then-self-eq-MOST_REPLICAS : goal.returns-then-self-eq-MOST_REPLICAS
+returns-then-self-eq-MOST_REPLICAS c =
     let range = c.args.self.now in
     (refl, omega (arith, length-take range.count range.replicas), refl)
 

@@ -12,10 +12,12 @@ invariant_of-self c =
     let map = c.args.self.now in
     let within : map.count ≤ length map.ranges = omega (arith, map.few, map.all) in
     let all : length c.insert.new.entries ≡ 256 = omega (arith, c.insert.auto.entries, map.all) in
-    let few : c.insert.new.count ≤ 256 = omega (arith, c.insert.ensures.within within, map.all) in (
-      all,
-      (few, (inserted_ascends (λ r. r.end) nat_cmp c.args.range map.ranges map.count c.insert.new.entries c.insert.new.count c.insert.result (c.insert.ensures.inserted (within, map.ascends)) map.ascends, tt)),
-    )
+    let few : c.insert.new.count ≤ 256 = omega (arith, c.insert.ensures.within within, map.all) in
+    record {
+      all = all;
+      few = few;
+      ascends = inserted_ascends (λ r. r.end) nat_cmp c.args.range map.ranges map.count c.insert.new.entries c.insert.new.count c.insert.result (c.insert.ensures.inserted (within, map.ascends)) map.ascends;
+    }
 
 pub returns-in-Ok : goal.returns-in-Ok
 returns-in-Ok c =

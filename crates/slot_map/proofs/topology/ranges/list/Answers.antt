@@ -8,15 +8,15 @@ use Rattle.slot_map.proofs.Tables.{filled_append, length_filled}
 use Rattle.slot_map.proofs.topology.ranges.list.Goals as goal
 use Rattle.std.specs.Ordering.{nat_cmp}
 
-pub returns-then-listed-ge-MOST-RANGES : goal.returns-then-listed-ge-MOST-RANGES
-returns-then-listed-ge-MOST-RANGES c rs told =
+pub returns-then-listed-ge-MOST_RANGES : goal.returns-then-listed-ge-MOST_RANGES
+returns-then-listed-ge-MOST_RANGES c rs told =
     let more = ap (λ o. length (rs ++ option_to_list (option_map range_of o))) c.in-Some.is ∙ length_push rs (range_of c.in-Some.range) in
-    (refl, omega (arith, more, told.1, c.if-listed-ge-MOST-RANGES.true))
+    (refl, omega (arith, more, told.1, c.if-listed-ge-MOST_RANGES.true))
 
 pub returns-in_err-insert : goal.returns-in_err-insert
 returns-in_err-insert c rs told =
     let full = c.in_err-insert.ensures.1 in
-    absurd (omega (arith, full, ap length told.0, (length_filled (λ r. r.end) nat_cmp [] rs).1, told.1, c.if-listed-ge-MOST-RANGES.false))
+    absurd (omega (arith, full, ap length told.0, (length_filled (λ r. r.end) nat_cmp [] rs).1, told.1, c.if-listed-ge-MOST_RANGES.false))
 
 pub returns : goal.returns
 returns c rs told =
@@ -24,5 +24,5 @@ returns c rs told =
     let more = ap (λ o. rs ++ option_to_list (option_map range_of o)) c.in-Some.is in (
       c.in_ok-insert.ensures ∙ ap (λ t. put (λ q. q.end) nat_cmp r t) told.0 ∙ sym (ap table more ∙ filled_append (λ q. q.end) nat_cmp [] rs (r ∷ [])),
       omega (arith, told.1, ap length more ∙ length_push rs r),
-      omega (arith, c.if-listed-ge-MOST-RANGES.false),
+      omega (arith, c.if-listed-ge-MOST_RANGES.false),
     )

@@ -11,7 +11,7 @@ use Rattle.ordered.specs.Table.{put}
 use Rattle.resp.specs.Value.{Value}
 use Rattle.slot_map.specs.Answer.{ranges}
 use Rattle.slot_map.specs.Range.{Range}
-use Rattle.std.specs.Ordering.{nat_cmp as rank}
+use Rattle.std.specs.Ordering.{nat_cmp}
 
 -- each in turn comes into its place, or into the place of the one that has its key
 abbrev pub filled : {E K : Type 0} (key : E → K) (rank : K → K → Ordering) → List E → List E → List E
@@ -20,7 +20,7 @@ filled key rank t (x ∷ xs) = filled key rank (put key rank x t) xs
 
 -- a later range with an equal end replaces an earlier one
 abbrev pub table : List Range → List Range
-table rs = filled (λ r. r.end) rank [] rs
+table rs = filled (λ r. r.end) nat_cmp [] rs
 
 -- the one with the smaller end, of those that reach the slot
 abbrev pub nearer : ℕ → Range → Option Range → Option Range

@@ -1,5 +1,7 @@
-// The reader of RESP2 for a caller in C, such as the benchmark. It promises the length of the value
-// at the front of some bytes, on any bytes; it allocates nothing and keeps nothing between calls.
+// The reader of RESP2 and the slot table for a caller in C or Rust, such as the benchmarks.
+//
+// It promises the length of the value at the front of some bytes, the size of the table that a slot answer
+// gives, and what lookups in it come to, on any bytes; it allocates nothing and keeps nothing between calls.
 // To read a value's parts is left to the crate `resp`.
 #![tactic(auto)]
 
@@ -7,7 +9,10 @@ ghost use Rattle.std.specs.Prelude.{◌≡◌, None};
 ghost use Rattle.probe.specs.Length.{length_read};
 ghost use Rattle.resp.specs.Reading.{value};
 
+mod slots;
+
 use resp::value;
+pub use slots::{slots_found, slots_read};
 
 // How many bytes the one value at the front of `bytes` takes, with arrays nested at most `depth`
 // deep; 0, which is no value's length, where there is none.

@@ -1,7 +1,7 @@
 -- Texts written one behind the other.
-use Rattle.std.proofs.Common.{◌≡◌, ℕ, cond, List, [], ◌∷◌, ◌++◌, is_ok, Ok, Err, Result, sym, ap, ◌∙◌, subst, append_assoc, append-nil}
-use Rattle.report.specs.Explained.{spaced}
+use Rattle.std.proofs.Common.{◌≡◌, ℕ, cond, List, [], ◌∷◌, ◌++◌, is_ok, Ok, Err, Result, sym, refl, ap, ◌∙◌, subst, append_assoc, append-nil}
 use Rattle.report.specs.Shown.{Added}
+use Rattle.report.specs.Words.{spaced}
 
 module _ {E : Type 0} where
   pub extended : (text mid new : List ℕ) (r : Result Unit E) → new ≡ cond (is_ok r) (mid ++ text) mid → Added text mid new r
@@ -20,6 +20,18 @@ Chain old (w ∷ ws) new = (mid : List ℕ) × (mid ≡ old ++ (32 ∷ w)) × Ch
 pub chained : (ws : List (List ℕ)) (old new : List ℕ) → Chain old ws new → new ≡ old ++ spaced ws
 chained [] old new e = e ∙ sym (append-nil old)
 chained (w ∷ ws) old new c = chained ws c.0 new c.2 ∙ ap (λ l. l ++ spaced ws) c.1 ∙ append_assoc old (32 ∷ w) (spaced ws)
+
+pub spaced_append : (ws us : List (List ℕ)) → spaced (ws ++ us) ≡ spaced ws ++ spaced us
+spaced_append [] us = refl
+spaced_append (w ∷ ws) us = ap (λ l. 32 ∷ (w ++ l)) (spaced_append ws us) ∙ ap (λ l. 32 ∷ l) (sym (append_assoc w (spaced ws) (spaced us)))
+
+-- a line: its first word, the words of the chain and others, and its end
+pub line_ended : (name : List ℕ) (ws us : List (List ℕ)) (old front mid full new : List ℕ) →
+    front ≡ old ++ name → Chain front ws mid → full ≡ mid ++ spaced us → new ≡ full ++ (10 ∷ []) → new ≡ old ++ ((name ++ spaced (ws ++ us)) ++ (10 ∷ []))
+line_ended name ws us old front mid full new named chain more ended =
+    let words : full ≡ front ++ spaced (ws ++ us) =
+    more ∙ ap (λ l. l ++ spaced us) (chained ws front mid chain) ∙ append_assoc front (spaced ws) (spaced us) ∙ ap (λ l. front ++ l) (sym (spaced_append ws us)) in
+    ended ∙ ap (λ l. l ++ (10 ∷ [])) (words ∙ ap (λ l. l ++ spaced (ws ++ us)) named) ∙ simp append_assoc
 
 pub word_as : (old new w v : List ℕ) → new ≡ old ++ (32 ∷ w) → w ≡ v → new ≡ old ++ (32 ∷ v)
 word_as old new w v e same = e ∙ ap (λ l. old ++ (32 ∷ l)) same

@@ -1,3 +1,3 @@
-pub mod Showing
+pub mod Each
 pub mod Adding
 pub mod Entries

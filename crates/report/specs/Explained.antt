@@ -1,6 +1,5 @@
 -- What a report says of an entry of a tape: how it ends, and of a server error its code, the retry method and the redirect.
 use Rattle.std.specs.Prelude.{ℕ, zero, suc, List, [], ◌∷◌, ◌++◌, length, Some, None, codes, decimal, Option}
-use Rattle.node.specs.Named.{Named}
 use Rattle.errors.specs.Endings.{ending, error_text, refusal, retry}
 use Rattle.errors.specs.Names.{ending_name, method_name}
 use Rattle.errors.specs.Redirection.{Sent, moved, ask, redirect}
@@ -9,7 +8,8 @@ use Rattle.errors.specs.declared.ending.Ending.{Ending}
 use Rattle.errors.specs.declared.ending.Ending.TheVariants as endings
 use Rattle.errors.specs.declared.redis_error.RetryMethod.{RetryMethod}
 use Rattle.resp.specs.Read.{Read}
-use Rattle.report.specs.Shown.{all_shown, shown}
+use Rattle.report.specs.Shown.{shown}
+use Rattle.report.specs.Words.{address_word, spaced}
 use Rattle.tape.specs.Entries.{Played, entry}
 use Rattle.tape.specs.declared.entry.Kind.{Kind}
 use Rattle.tape.specs.declared.entry.Kind.TheVariants.{Answer, Dropped, Denied, Other}
@@ -44,9 +44,6 @@ abbrev pub method_word : Option RetryMethod → List ℕ
 method_word None = dash
 method_word (Some m) = method_name m
 
-abbrev pub address_word : Named → List ℕ
-address_word n = all_shown n.host ++ (58 ∷ decimal n.port)
-
 abbrev pub sent_word : Option Sent → List ℕ
 sent_word None = dash
 sent_word (Some (moved n)) = address_word n
@@ -55,11 +52,6 @@ sent_word (Some (ask n)) = address_word n
 abbrev pub redirect_word : Option (List ℕ) → List ℕ
 redirect_word None = dash
 redirect_word (Some text) = sent_word (redirect text)
-
--- words, each behind a blank
-abbrev pub spaced : List (List ℕ) → List ℕ
-spaced [] = []
-spaced (w ∷ ws) = 32 ∷ (w ++ spaced ws)
 
 unfoldable pub entry_line : ℕ → Kind → List ℕ → List ℕ
 entry_line i k bs =

@@ -1,2 +1,4 @@
 pub mod Shown
+pub mod Words
+pub mod Ranges
 pub mod Explained

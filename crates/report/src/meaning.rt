@@ -2,10 +2,12 @@ ghost use Rattle.std.specs.Prelude.{◌≡◌, [], ◌∷◌, ◌++◌, IfOk};
 ghost use Rattle.errors.specs.Endings.{refusal, retry};
 ghost use Rattle.errors.specs.Redirection.{named};
 ghost use Rattle.resp.specs.Told.{text_at};
-ghost use Rattle.report.specs.Explained.{kind_word, entry_ending, entry_error, code_word, method_word, redirect_word, address_word, entry_line, explained};
+ghost use Rattle.report.specs.Explained.{kind_word, entry_ending, entry_error, code_word, method_word, redirect_word, entry_line, explained};
 ghost use Rattle.report.specs.Shown.{Added};
+ghost use Rattle.report.specs.Words.{address_word};
 
-use crate::show::{show, show_all};
+use crate::show::show;
+use crate::words::{address, number, word};
 use errors::{Answer, Ending, Redirect, ServerError, Target};
 use resp::place::Place;
 use std::alloc::{AllocError, Global};
@@ -41,14 +43,6 @@ fn played(kind: Kind, bytes: &[u8]) -> Answer
     }
 }
 
-// A blank, and the text as it is.
-fn word(out: &mut Vec<u8>, text: &[u8]) -> Result<(), AllocError>
-    ensures { Added (32 ∷ text.now) out.old.items out.new.items result }
-{
-    out.push(b' ')?;
-    out.extend_from_slice(text)
-}
-
 // The code of the error whose text lies at the place.
 fn code(out: &mut Vec<u8>, bytes: &[u8], error: Option<Place>) -> Result<(), AllocError>
     ensures { Added (32 ∷ code_word (text_at bytes.now error)) out.old.items out.new.items result }
@@ -71,15 +65,16 @@ fn method(out: &mut Vec<u8>, ending: Ending) -> Result<(), AllocError>
     }
 }
 
-// `host:port`, as the target names them in the text.
-fn address(out: &mut Vec<u8>, heap: Global, text: &[u8], target: Target) -> Result<(), AllocError>
+// The address that the target names in the text.
+fn target_address(
+    out: &mut Vec<u8>,
+    heap: Global,
+    text: &[u8],
+    target: Target,
+) -> Result<(), AllocError>
     ensures { Added (32 ∷ address_word (named text.now target)) out.old.items out.new.items result }
 {
-    let port = target.port.to_string(heap)?;
-    out.push(b' ')?;
-    show_all(out, target.host.text(text))?;
-    out.push(b':')?;
-    out.extend_from_slice(port.as_bytes())
+    address(out, heap, target.host.text(text), target.port)
 }
 
 // The redirect in the error whose text lies at the place.
@@ -97,8 +92,8 @@ fn redirect(
     let text = place.text(bytes);
     match Redirect::read(text) {
         None => word(out, b"-"),
-        Some(Redirect::Moved(target)) => address(out, heap, text, target),
-        Some(Redirect::Ask(target)) => address(out, heap, text, target),
+        Some(Redirect::Moved(target)) => target_address(out, heap, text, target),
+        Some(Redirect::Ask(target)) => target_address(out, heap, text, target),
     }
 }
 
@@ -106,11 +101,10 @@ fn redirect(
 fn entry_line(heap: Global, index: u64, kind: Kind, bytes: &[u8]) -> Result<Vec<u8>, AllocError>
     ensures { IfOk result (λ v. v.items ≡ entry_line index kind bytes.now) }
 {
-    let number = index.to_string(heap)?;
     let answer = played(kind, bytes);
     let mut out = Vec::new(heap);
     out.extend_from_slice(b"entry")?;
-    word(&mut out, number.as_bytes())?;
+    number(&mut out, heap, index)?;
     word(&mut out, kind_name(kind))?;
     word(&mut out, answer.ending.name().as_bytes())?;
     code(&mut out, bytes, answer.error)?;

@@ -1,7 +1,8 @@
 use Rattle.std.proofs.Common.{[], ◌∷◌, ◌++◌, vec_items, codes, decimal, refl, ap, ◌∙◌}
 use Rattle.errors.specs.Endings.{refusal, retry}
 use Rattle.errors.specs.Names.{ending_name}
-use Rattle.report.specs.Explained.{kind_word, entry_ending, entry_error, code_word, method_word, redirect_word, spaced, entry_line}
+use Rattle.report.specs.Explained.{kind_word, entry_ending, entry_error, code_word, method_word, redirect_word, entry_line}
+use Rattle.report.specs.Words.{spaced}
 use Rattle.report.proofs.Adding.{chained, word_as}
 use Rattle.report.proofs.meaning.entry_line.Goals as goal
 
@@ -13,9 +14,9 @@ returns c =
     let ending = c.played-answer.ensures.ending in
     let error = c.played-answer.ensures.error in
     let o₀ = vec_items c.extend_from_slice.new.self in
-    let o₁ = vec_items c.word.new.out in
-    let o₂ = vec_items c.word-2.new.out in
-    let o₃ = vec_items c.word-3.new.out in
+    let o₁ = vec_items c.number.new.out in
+    let o₂ = vec_items c.word.new.out in
+    let o₃ = vec_items c.word-2.new.out in
     let o₄ = vec_items c.code.new.out in
     let o₅ = vec_items c.method.new.out in
     let o₆ = vec_items c.redirect.new.out in
@@ -27,13 +28,13 @@ returns c =
     let w₆ = redirect_word (entry_error k bs) in
     chained (w₁ ∷ w₂ ∷ w₃ ∷ w₄ ∷ w₅ ∷ w₆ ∷ []) o₀ o₆ (
       o₁,
-      word_as o₀ o₁ _ w₁ c.in_ok-word.ensures (c.as_bytes.ensures.value ∙ c.in_ok-number.ensures.ok),
+      c.in_ok-number.ensures,
       (
         o₂,
-        word_as o₁ o₂ _ w₂ c.in_ok-word-2.ensures c.kind_name.ensures,
+        word_as o₁ o₂ _ w₂ c.in_ok-word.ensures c.kind_name.ensures,
         (
           o₃,
-          word_as o₂ o₃ _ w₃ c.in_ok-word-3.ensures (c.as_bytes-2.ensures.value ∙ c.name.ensures ∙ ap ending_name ending),
+          word_as o₂ o₃ _ w₃ c.in_ok-word-2.ensures (c.as_bytes.ensures.value ∙ c.name.ensures ∙ ap ending_name ending),
           (
             o₄,
             word_as o₃ o₄ _ w₄ c.in_ok-code.ensures (ap code_word error),

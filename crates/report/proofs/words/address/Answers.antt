@@ -1,9 +1,8 @@
-use Rattle.std.proofs.Common.{[], ◌∷◌, ◌++◌, vec_items, decimal, refl, ap, ◌∙◌, subst}
+use Rattle.std.proofs.Common.{[], ◌∷◌, vec_items, decimal, refl, ◌∙◌, subst}
 use Rattle.std.proofs.lemmas.Slice.{pushed}
-use Rattle.resp.specs.Told.{part}
 use Rattle.report.specs.Shown.{all_shown, Added}
 use Rattle.report.proofs.Adding.{extended, address_added}
-use Rattle.report.proofs.meaning.address.Goals as goal
+use Rattle.report.proofs.words.address.Goals as goal
 
 pub returns : goal.returns
 returns c =
@@ -12,8 +11,8 @@ returns c =
     let new = vec_items c.extend_from_slice.new.self in
     let r = c.extend_from_slice.result in
     let port = c.as_bytes.ensures.value ∙ c.in_ok-port.ensures.ok in
-    address_added (vec_items c.args.out.now) m₁ (vec_items c.show_all.new.out) m₃ new (all_shown (part c.args.text.now c.args.target.host)) (decimal c.args.target.port) r
+    address_added (vec_items c.args.out.now) m₁ (vec_items c.show_all.new.out) m₃ new (all_shown c.args.host.now) (decimal c.args.port) r
     (pushed (32 ∷ []) refl c.in_ok-push.was c.push.ensures.items)
-    (c.in_ok-show_all.ensures ∙ ap (λ l. m₁ ++ all_shown l) c.text.ensures)
+    c.in_ok-show_all.ensures
     (pushed (58 ∷ []) refl c.in_ok-push-2.was c.push-2.ensures.items)
     (subst (λ l. Added l m₃ new r) port (extended c.as_bytes.result.now m₃ new r c.extend_from_slice.ensures.items))

@@ -1,7 +1,7 @@
 use Rattle.std.proofs.Common.{[], ◌∷◌, vec_items, refl}
 use Rattle.std.proofs.lemmas.Slice.{pushed}
 use Rattle.report.proofs.Adding.{extended, added_more}
-use Rattle.report.proofs.meaning.word.Goals as goal
+use Rattle.report.proofs.words.word.Goals as goal
 
 pub returns : goal.returns
 returns c =

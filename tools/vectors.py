@@ -13,7 +13,7 @@ import collections, pathlib, re, subprocess, sys
 sys.dont_write_bytecode = True  # nothing is left beside the sources
 import slot_answers
 
-ANSWERING = b"-"  # the host that explain takes for the one that answered
+ANSWERING = b"-"  # the host that a report takes for the one that answered
 KINDS = ["answer", "dropped", "denied", "other"]
 FAULTS = {"dropped": "reset", "denied": "denied", "other": "timeout"}  # as RUST_ERRORS calls them
 
@@ -127,14 +127,13 @@ def spelled(ranges):
 
 
 def explained(b, rust):
-    """What explain says of an answer: its ending, and the lines of its table."""
+    """What explain says of an answer: its ending."""
     try:
         v = read(b, 8)
     except Unreadable:
         kind, method, _ = asked(rust, "parse")
         return f"{kind} - {method} -"
-    ranges, is_granted = slot_answers.table(v, ANSWERING)
-    return "\n".join([ending(errors(v), rust)] + [f"range {r}" for r in spelled(ranges) if is_granted])
+    return ending(errors(v), rust)
 
 
 def compare_tables(answers, rust):
@@ -205,7 +204,7 @@ CORNERS += [
 ]
 
 
-CORNERS += map(slot_answers.written, slot_answers.CORNERS)
+SLOTS = [slot_answers.written(v) for v in slot_answers.CORNERS]
 
 
 def cases(captures):
@@ -238,7 +237,7 @@ def main():
         answers.append(b)
     tape = list(entries((crates / "order" / "data" / "answers.tape").read_bytes()))
     explanation = [entry(i, kind, b, rust_errors) for i, (kind, b) in enumerate(tape, 1)]
-    counts = compare_tables(answers + [b for kind, b in tape if kind == "answer"], rust_slots)
+    counts = compare_tables(answers + SLOTS + [b for kind, b in tape if kind == "answer"], rust_slots)
     (crates / "vectors" / "stdin").write_text("\n".join(given) + "\n")
     (crates / "vectors" / "stdout").write_text("\n".join(expected) + "\n")
     (crates / "order" / "stdout").write_text("\n".join(explanation) + "\n")

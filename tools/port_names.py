@@ -1,5 +1,6 @@
 #!/usr/bin/env python3
-"""port_names.py: brings the names of this repository's definitions and lemmas to one spelling, run once at the top.
+"""port_names.py: brings the names of this repository's definitions and lemmas to one spelling, run once at the top,
+behind the kit's own script.
 
 Types and modules are in upper camel case, everything else that specs/ and proofs/ declare is in snake case: so
 `host-of` becomes `host_of`, and `Reads-back` becomes `ReadsBack`. Only names that a file of specs/ or proofs/
@@ -58,7 +59,7 @@ def main():
         sys.exit(f"names fall together: {together}")
     word = re.compile(r"(?<![\w'·-])(" + "|".join(sorted(map(re.escape, words), key=len, reverse=True)) + r")(?![\w'·-])")
     goals = {p: goal_names(p.read_text().splitlines()) for p in antt}
-    changed = 0
+    changed = {}
     for p in files:
         text = p.read_text()
         # A name of a goal that reads as one of ours stays, where the file answers it or cites a step by it.
@@ -69,11 +70,12 @@ def main():
                 sys.exit(f"{p}: {alias} falls together with {snake}")
             new = re.sub(rf"\b{alias}\b", snake, new)
         if new != text:
-            p.write_text(new)
-            changed += 1
+            changed[p] = new
+    for p, new in changed.items():
+        p.write_text(new)
     for name in sorted(words):
         print(f"{name} {words[name]}")
-    print(f"{len(words)} names, {changed} files", file=sys.stderr)
+    print(f"{len(words)} names, {len(changed)} files", file=sys.stderr)
 
 
 main()

@@ -25,8 +25,8 @@ const CODES: [(&[u8], &str, &str); 14] = [
 fn knows_each_code(rt: HostRuntime) -> Result<(), Fail> {
     for (code, name, method) in CODES {
         let kind = ServerErrorKind::from_code(code).ok_or(name)?;
-        assert!(rt; kind.code() == code, "{}", kind.name());
         assert_eq!(rt; kind.name(), name);
+        assert!(rt; kind.code() == code, "{}", kind.name());
         assert_eq!(rt; Refusal::Server(kind).retry_method().name(), method);
     }
     assert!(rt; ServerErrorKind::from_code(b"moved").is_none());

@@ -18,22 +18,32 @@ is what a retry does first; - stands for none. What is cut off counts as dropped
 
 const HINT: &str = "expected: order explain TAPE; 'order help' tells more";
 
-// A tape's bytes, or a message that names the file.
-fn read_tape(rt: &HostRuntime, path: &str) -> anyhow::Result<Vec<u8>> {
+// A tape's bytes. A file that cannot be read is named here, and whole: an error would keep 120 bytes of it.
+fn read_tape(rt: &HostRuntime, path: &str) -> anyhow::Result<Option<Vec<u8>>> {
     match fs::read(rt, path) {
-        Ok(tape) => Ok(tape),
-        Err(e) => Err(anyhow!(format!(in rt.alloc(); "cannot read {path}: {e}")?)),
+        Ok(tape) => Ok(Some(tape)),
+        Err(e) => {
+            eprintln!(rt; "order: cannot read {path}: {e}")?;
+            Ok(None)
+        }
     }
 }
 
-fn explain_tape(rt: &HostRuntime, path: &str) -> anyhow::Result<()> {
-    let tape = read_tape(rt, path)?;
+fn explain_tape(rt: &HostRuntime, path: &str) -> anyhow::Result<ExitCode> {
+    let Some(tape) = read_tape(rt, path)? else {
+        return Ok(ExitCode::FAILURE);
+    };
     let lines = explain(rt.alloc(), tape.as_slice())?;
     rt.stdout().write_all(lines.as_slice())?;
-    Ok(())
+    Ok(ExitCode::SUCCESS)
 }
 
-fn run(rt: &HostRuntime) -> anyhow::Result<()> {
+fn help(rt: &HostRuntime) -> anyhow::Result<ExitCode> {
+    rt.println(USAGE)?;
+    Ok(ExitCode::SUCCESS)
+}
+
+fn run(rt: &HostRuntime) -> anyhow::Result<ExitCode> {
     let mut args = env::args(rt)?.skip(1);
     let command = args.next();
     let operand = args.next();
@@ -43,14 +53,14 @@ fn run(rt: &HostRuntime) -> anyhow::Result<()> {
     };
     match (command.as_str(), &operand) {
         ("explain", Some(path)) => explain_tape(rt, path.as_str()),
-        ("help" | "--help" | "-h", None) => Ok(rt.println(USAGE)?),
+        ("help" | "--help" | "-h", None) => help(rt),
         _ => Err(anyhow!(HINT)),
     }
 }
 
 fn main(rt: HostRuntime) -> ExitCode {
     match run(&rt) {
-        Ok(()) => ExitCode::SUCCESS,
+        Ok(status) => status,
         Err(e) => {
             let _ = eprintln!(rt; "order: {e}");
             ExitCode::FAILURE

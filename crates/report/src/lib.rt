@@ -9,6 +9,8 @@
 mod meaning;
 mod ranges;
 mod show;
+#[cfg(test)]
+mod tests;
 mod words;
 
 pub use meaning::explain;

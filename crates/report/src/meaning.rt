@@ -7,7 +7,7 @@ ghost use Rattle.report.specs.Shown.{Added};
 ghost use Rattle.report.specs.Words.{address_word};
 
 use crate::show::show;
-use crate::words::{address, number, word};
+use crate::words::{host_port, number, word};
 use errors::{Answer, Ending, Redirect, ServerError, Target};
 use resp::place::Place;
 use std::alloc::{AllocError, Global};
@@ -65,16 +65,11 @@ fn method(out: &mut Vec<u8>, ending: Ending) -> Result<(), AllocError>
     }
 }
 
-// The address that the target names in the text.
-fn target_address(
-    out: &mut Vec<u8>,
-    heap: Global,
-    text: &[u8],
-    target: Target,
-) -> Result<(), AllocError>
+// `host:port`, as the target names them in the text.
+fn address(out: &mut Vec<u8>, heap: Global, text: &[u8], target: Target) -> Result<(), AllocError>
     ensures { Added (32 ∷ address_word (named text.now target)) out.old.items out.new.items result }
 {
-    address(out, heap, target.host.text(text), target.port)
+    host_port(out, heap, target.host.text(text), target.port)
 }
 
 // The redirect in the error whose text lies at the place.
@@ -92,8 +87,8 @@ fn redirect(
     let text = place.text(bytes);
     match Redirect::read(text) {
         None => word(out, b"-"),
-        Some(Redirect::Moved(target)) => target_address(out, heap, text, target),
-        Some(Redirect::Ask(target)) => target_address(out, heap, text, target),
+        Some(Redirect::Moved(target)) => address(out, heap, text, target),
+        Some(Redirect::Ask(target)) => address(out, heap, text, target),
     }
 }
 

@@ -4,7 +4,7 @@ ghost use Rattle.report.specs.Shown.{Added};
 ghost use Rattle.report.specs.Words.{spaced};
 ghost use Rattle.slot_map.specs.Range.{range_of};
 
-use crate::words::{address, number};
+use crate::words::{host_port, number};
 use node::NodeAddress;
 use slot_map::{SlotRange, parse_slots};
 use std::alloc::{AllocError, Global};
@@ -13,7 +13,7 @@ use tape::Kind;
 fn node(out: &mut Vec<u8>, heap: Global, node: &NodeAddress) -> Result<(), AllocError>
     ensures { Added (32 ∷ node_word node.now) out.old.items out.new.items result }
 {
-    address(out, heap, node.host(), node.port())
+    host_port(out, heap, node.host(), node.port())
 }
 
 fn nodes(out: &mut Vec<u8>, heap: Global, nodes: &[NodeAddress]) -> Result<(), AllocError>

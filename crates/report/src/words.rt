@@ -21,7 +21,7 @@ pub(crate) fn number(out: &mut Vec<u8>, heap: Global, n: u64) -> Result<(), Allo
 }
 
 // ` host:port`.
-pub(crate) fn address(
+pub(crate) fn host_port(
     out: &mut Vec<u8>,
     heap: Global,
     host: &[u8],

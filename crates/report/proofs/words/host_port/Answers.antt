@@ -2,7 +2,7 @@ use Rattle.std.proofs.Common.{[], ◌∷◌, vec_items, decimal, refl, ◌∙◌
 use Rattle.std.proofs.lemmas.Slice.{pushed}
 use Rattle.report.specs.Shown.{all_shown, Added}
 use Rattle.report.proofs.Adding.{extended, address_added}
-use Rattle.report.proofs.words.address.Goals as goal
+use Rattle.report.proofs.words.host_port.Goals as goal
 
 pub returns : goal.returns
 returns c =

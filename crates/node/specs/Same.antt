@@ -1,17 +1,13 @@
 -- An address is its host and its port, and nothing more.
-use Rattle.std.specs.Prelude.{◌≡◌, ℕ, ◌-◌, true, List, [], ◌∷◌, ◌++◌, length, take, drop, replicate, ◌==◌, refl}
+use Rattle.std.specs.Prelude.{◌≡◌, ℕ, ◌-◌, true, List, ◌++◌, length, take, replicate}
 use Rattle.std.proofs.Math.Bool.{Bool-set}
 use mathlib.Core.HLevel.{is_prop→PathP}
-use Rattle.std.proofs.Common.{sym, ap, ◌∙◌, arith, length-drop, take-append-drop}
-use Rattle.std.proofs.lemmas.List.{length-take-le}
-use Rattle.std.proofs.lemmas.Bool.{and_parts, eqb-true, leb-true}
+use Rattle.std.proofs.Common.{sym, ap, ◌∙◌}
+use Rattle.std.proofs.lemmas.Bool.{and_parts, and_from}
 use Rattle.node.specs.Address.{host_of, name_of}
-use Rattle.node.specs.Host.{host_form, all_zero, padded_host}
+use Rattle.node.specs.Host.{host_form, padded_host}
+use Rattle.node.specs.Padded.{padded_parts}
 use Rattle.node.specs.declared.address.NodeAddress.{NodeAddress}
-
-zeros_are : (zs : List ℕ) → all_zero zs ≡ true → zs ≡ replicate (length zs) 0
-zeros_are [] h = refl
-zeros_are (z ∷ zs) h = let p = and_parts (z == 0) (all_zero zs) h in λ i. eqb-true z 0 p.0 i ∷ zeros_are zs p.1 i
 
 record Formed (bytes : List ℕ) (n : ℕ) : Type 0 where
   form : host_form (take n bytes) ≡ true
@@ -22,15 +18,8 @@ formed_parts : (bytes : List ℕ) (n : ℕ) → padded_host bytes n ≡ true →
 formed_parts bytes n h =
     let p = and_parts _ _ h in
     let q = and_parts _ _ p.0 in
-    let r = and_parts _ _ q.0 in
-    let whole = eqb-true (length bytes) 64 r.0 in
-    let within = leb-true n 64 r.1 in
-    let left : length (drop n bytes) ≡ 64 - n = omega (arith, length-drop n bytes) in
-    record {
-      form = q.1;
-      padded = sym (take-append-drop n bytes) ∙ ap (λ zs. take n bytes ++ zs) (zeros_are (drop n bytes) p.1 ∙ ap (λ k. replicate k 0) left);
-      long = sym (length-take-le n bytes (omega arith));
-    }
+    let parts = padded_parts bytes n (and_from _ _ q.0 p.1) in
+    record { form = q.1; padded = parts.is; long = parts.long }
 
 pub host_formed : (a : NodeAddress) → host_form (host_of a) ≡ true
 host_formed a = (formed_parts a.host a.len a.formed).form

@@ -1,8 +1,8 @@
-// The reader of RESP2 and the slot table for a caller in C or Rust, such as the benchmarks.
+// The reader of RESP2 and the slot table for a caller that wants plain numbers, such as the benchmarks.
 //
 // It promises the length of the value at the front of some bytes, the size of the table that a slot answer
 // gives, and what lookups in it come to, on any bytes; it allocates nothing and keeps nothing between calls.
-// To read a value's parts is left to the crate `resp`.
+// To read a value's parts is left to the crate `resp`, and what C calls to `probe_c`.
 #![tactic(auto)]
 
 ghost use Rattle.std.specs.Prelude.{◌≡◌, None};
@@ -16,8 +16,7 @@ pub use slots::{slots_found, slots_read};
 
 // How many bytes the one value at the front of `bytes` takes, with arrays nested at most `depth`
 // deep; 0, which is no value's length, where there is none.
-#[unsafe(no_mangle)]
-pub extern "C" fn resp_value_len(bytes: &[u8], depth: u32) -> usize
+pub fn resp_value_len(bytes: &[u8], depth: u32) -> usize
     ensures value { result ≡ length_read depth bytes.now }
     ensures absent { result ≡ 0 → value depth bytes.now ≡ None }
 {

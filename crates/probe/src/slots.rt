@@ -1,14 +1,13 @@
 ghost use Rattle.std.specs.Prelude.{◌≡◌, codes};
 ghost use Rattle.probe.specs.Found.{size, worth as worth_of, summed, repeated, found_in};
 ghost use Rattle.slot_map.specs.Maps.{table_of};
-ghost use Rattle.slot_map.specs.Table.{slots as slots_of};
+ghost use Rattle.slot_map.specs.Table.{slots as answer_slots};
 
 use slot_map::{SlotMap, parse_slots};
 
 // How many ranges the table of a slot answer has, if `-` answered; the largest number where it is refused.
-#[unsafe(no_mangle)]
-pub extern "C" fn slots_read(answer: &[u8]) -> u64
-    ensures { result ≡ size (slots_of (codes "-") answer.now) }
+pub fn slots_read(answer: &[u8]) -> u64
+    ensures { result ≡ size (answer_slots (codes "-") answer.now) }
 {
     match parse_slots(answer, b"-") {
         Ok(map) => map.ranges().len() as u64,
@@ -51,9 +50,8 @@ fn sum_rounds(map: &SlotMap, slots: &[u8], rounds: u64) -> u64
 }
 
 // What all the slots are worth in the table of a slot answer, so many times over; 0 where it is refused.
-#[unsafe(no_mangle)]
-pub extern "C" fn slots_found(answer: &[u8], slots: &[u8], rounds: u64) -> u64
-    ensures { result ≡ found_in slots.now rounds (slots_of (codes "-") answer.now) }
+pub fn slots_found(answer: &[u8], slots: &[u8], rounds: u64) -> u64
+    ensures { result ≡ found_in slots.now rounds (answer_slots (codes "-") answer.now) }
 {
     match parse_slots(answer, b"-") {
         Ok(map) => sum_rounds(&map, slots, rounds),

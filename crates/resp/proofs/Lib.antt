@@ -1,5 +1,4 @@
 pub mod Shared
-pub mod Parts
 pub mod Lines
 pub mod Numbers
 pub mod Tokens
@@ -7,7 +6,7 @@ pub mod Walks
 pub mod Standings
 pub mod Readings
 pub mod Stood
+pub mod Whole
 pub mod Commands
 pub mod Framed
-pub mod Numerals
 pub mod Writings

@@ -1,40 +1,30 @@
 -- How far a line's text goes, one byte at a time.
-use Rattle.std.proofs.Common.{◌≡◌, ℕ, zero, suc, ◌+◌, ◌-◌, ◌<◌, ◌≤◌, true, false, cond, List, [], ◌∷◌, length, get_or, take, drop, Some, None, ap, ◌∙◌, subst, arith, length-drop}
-use Rattle.std.proofs.lemmas.List.{at_drop_more, at_drop_all, drop-drop, get_or-take, get_or-drop, length-take-le}
-use Rattle.std.proofs.lemmas.Bool.{false≢true, ne_eqb}
-use Rattle.resp.specs.Line.{breaks, plain, ended, closed}
+use Rattle.std.proofs.Common.{◌≡◌, ℕ, zero, suc, ◌+◌, ◌<◌, ◌≤◌, Bool, true, false, cond, List, [], ◌∷◌, ◌++◌, length, get_or, take, drop, Some, None, refl, sym, ap, ◌∙◌, arith, length-drop, length-append}
+use Rattle.std.proofs.Math.Numerals.{one-add}
+use Rattle.std.proofs.lemmas.Bool.Decides.{nat_tests}
+use Rattle.std.proofs.lemmas.List.{drop-drop, drop_all}
+use Rattle.std.proofs.lemmas.Bool.{false≢true, false_from_ne_true}
+use Rattle.std.specs.Bool.{then_some}
+use Rattle.std.specs.List.{position, position_or_len}
+use Rattle.std.proofs.lemmas.List.Recursion.{is_position_or_len}
+use Rattle.std.proofs.lemmas.List.Quantifiers.{position-Some}
+use Rattle.memchr.specs.Find.{IsFirstByte, is_byte2}
+use Rattle.resp.specs.Line.{breaks, plain, ended, closed, line}
 use Rattle.resp.specs.Place.{cut}
 
-pub plain_stops : (bs : List ℕ) (n : ℕ) → n < length bs → breaks (get_or bs n 0) ≡ true → plain (drop n bs) ≡ 0
-plain_stops bs n h e = at_drop_more plain bs n 0 h ∙ ap (λ b. cond b 0 (suc (plain (drop (n + 1) bs)))) e
+-- the first byte that breaks
+plain_at : (bs : List ℕ) (k : ℕ) → k < length bs → breaks (get_or bs k 0) ≡ true → ((j : ℕ) → 0 ≤ j → j < k → breaks (get_or bs j 0) ≡ true → ⊥) → plain bs ≡ k
+plain_at [] k h e none = absurd (omega arith)
+plain_at (b ∷ bs) zero h e none = rw e
+plain_at (b ∷ bs) (suc k) h e none =
+    let goes : breaks b ≡ false = false_from_ne_true (breaks b) (none 0 (omega arith) (omega arith)) in
+    rw goes (ap suc (plain_at bs k (omega arith) e (λ j z l. none (suc j) (omega arith) (omega arith))))
 
-pub plain_goes : (bs : List ℕ) (n : ℕ) → n < length bs → breaks (get_or bs n 0) ≡ false → plain (drop n bs) ≡ suc (plain (drop (n + 1) bs))
-plain_goes bs n h e = at_drop_more plain bs n 0 h ∙ ap (λ b. cond b 0 (suc (plain (drop (n + 1) bs)))) e
-
-pub plain_ends : (bs : List ℕ) (n : ℕ) → length bs ≤ n → plain (drop n bs) ≡ 0
-plain_ends = at_drop_all plain
-
--- above CR there is no break
-high_goes : (bs : List ℕ) (n : ℕ) → n < length bs → 13 < get_or bs n 0 → plain (drop n bs) ≡ suc (plain (drop (n + 1) bs))
-high_goes bs n h high = plain_goes bs n h (let cr = ne_eqb (get_or bs n 0) 13 (λ e. omega arith) in let lf = ne_eqb (get_or bs n 0) 10 (λ e. omega arith) in rw (cr, lf))
-
-pub block_goes : (bs : List ℕ) (at n : ℕ) → at + n ≤ length bs → ((k : ℕ) → k < n → 13 < get_or bs (at + k) 0) → plain (drop at bs) ≡ n + plain (drop (at + n) bs)
-block_goes bs at zero fits high = let here : at + 0 ≡ at = omega arith in rw here (omega arith)
-block_goes bs at (suc n) fits high =
-    let here : at + 0 ≡ at = omega arith in
-    let next : at + 1 + n ≡ at + suc n = omega arith in
-    let first = high_goes bs at (omega arith) (subst (λ i. 13 < get_or bs i 0) here (high 0 (omega arith))) in
-    let later = block_goes bs (at + 1) n (omega arith) (λ k h. let i : at + suc k ≡ at + 1 + k = omega arith in subst (λ j. 13 < get_or bs j 0) i (high (suc k) (omega arith))) in
-    let all : plain (drop (at + 1 + n) bs) ≡ plain (drop (at + suc n) bs) = ap (λ i. plain (drop i bs)) next in
-    omega (arith, first, later, all)
-
--- a block whose least byte is above CR
-pub block_plain : (bs : List ℕ) (at least : ℕ) → at + 16 ≤ length bs → 13 < least → ((k : ℕ) → k < length (take (at + 16 - at) (drop at bs)) → least ≤ get_or (take (at + 16 - at) (drop at bs)) k 0) → plain (drop at bs) ≡ 16 + plain (drop (at + 16) bs)
-block_plain bs at least fits high each =
-    let size : at + 16 - at ≡ 16 = omega arith in
-    let part : (k : ℕ) → k < length (take 16 (drop at bs)) → least ≤ get_or (take 16 (drop at bs)) k 0 = subst (λ n. (k : ℕ) → k < length (take n (drop at bs)) → least ≤ get_or (take n (drop at bs)) k 0) size each in
-    let long = length-take-le 16 (drop at bs) (omega (arith, length-drop at bs)) in
-    block_goes bs at 16 fits (λ k h. omega (arith, part k (omega (arith, long)), get_or-take 16 (drop at bs) k 0 h, get_or-drop at bs k 0))
+plain_all : (bs : List ℕ) → ((j : ℕ) → 0 ≤ j → j < length bs → breaks (get_or bs j 0) ≡ true → ⊥) → plain bs ≡ length bs
+plain_all [] none = refl
+plain_all (b ∷ bs) none =
+    let goes : breaks b ≡ false = false_from_ne_true (breaks b) (none 0 (omega arith) (omega arith)) in
+    rw goes (ap suc (plain_all bs (λ j z l. none (suc j) (omega arith) (omega arith))))
 
 ended_long : (bs : List ℕ) → ended bs ≡ true → 2 ≤ length bs
 ended_long [] e = absurd (false≢true e)
@@ -51,3 +41,49 @@ module _ (bs : List ℕ) (n : ℕ) where
 
   pub open_cut : ended (drop n bs) ≡ false → cut bs None ≡ closed (take n bs) (drop n bs)
   open_cut e = rw e
+
+plain_position : (bs : List ℕ) → plain bs ≡ position_or_len breaks bs
+plain_position = is_position_or_len plain breaks refl (λ b bs. ap (cond (breaks b) 0) (sym (one-add (plain bs))))
+
+plain_front : (xs ys : List ℕ) → plain xs < length xs → plain (xs ++ ys) ≡ plain xs
+plain_front [] ys h = absurd (omega arith)
+plain_front (x ∷ xs) ys h =
+    elim (breaks x) as (λ b. cond b 0 (suc (plain xs)) < suc (length xs) → cond b 0 (suc (plain (xs ++ ys))) ≡ cond b 0 (suc (plain xs)))
+    [ true ↦ λ l. refl | false ↦ λ l. ap suc (plain_front xs ys (omega arith)) ] h
+
+plain_behind : (xs ys : List ℕ) → length xs ≤ plain xs → plain (xs ++ ys) ≡ length xs + plain ys
+plain_behind [] ys h = omega arith
+plain_behind (x ∷ xs) ys h =
+    elim (breaks x) as (λ b. suc (length xs) ≤ cond b 0 (suc (plain xs)) → cond b 0 (suc (plain (xs ++ ys))) ≡ suc (length xs) + plain ys)
+    [ true ↦ λ l. absurd (omega arith) | false ↦ λ l. omega (arith, plain_behind xs ys (omega arith)) ] h
+
+-- a break among the first bytes, or the first one behind them
+module _ (xs ys : List ℕ) where
+  pub break_near : (n : ℕ) → Some n ≡ position breaks xs → (n < length (xs ++ ys)) × (n ≡ plain (xs ++ ys))
+  break_near n e =
+      let at = position-Some breaks xs n 0 (sym e) in
+      let here = plain_at xs n at.0 at.1 (λ j z l t. false≢true (sym (at.2 j l) ∙ t)) in
+      (omega (arith, at.0, length-append xs ys), omega (arith, plain_front xs ys (omega (arith, at.0, here)), here))
+
+  none_near : None ≡ position breaks xs → length xs ≤ plain xs
+  none_near e = grind (arith, nat_tests, plain_position xs)
+
+  pub break_far : None ≡ position breaks xs → (n : ℕ) → IsFirstByte (is_byte2 13 10) ys (Some n) → (length xs + n < length (xs ++ ys)) × (length xs + n ≡ plain (xs ++ ys))
+  break_far e n h =
+      let here = plain_at ys n h.0.high h.1 h.0.before in
+      (omega (arith, h.0.high, length-append xs ys), omega (arith, plain_behind xs ys (none_near e), here))
+
+  pub no_break : None ≡ position breaks xs → IsFirstByte (is_byte2 13 10) ys None → plain (xs ++ ys) ≡ length (xs ++ ys)
+  no_break e h = omega (arith, plain_behind xs ys (none_near e), plain_all ys h, length-append xs ys)
+
+pub no_line : (bs : List ℕ) → plain bs ≡ length bs → cut bs None ≡ line bs
+no_line bs all =
+    open_cut bs (plain bs) (ap (λ n. ended (drop n bs)) all ∙ ap ended (drop_all (length bs) bs (omega arith)))
+
+module _ (bs : List ℕ) (n : ℕ) (found : n ≡ plain bs) (b : Bool) (e : b ≡ ended (drop n bs)) where
+  pub line_cut : cut bs (then_some b n) ≡ line bs
+  line_cut = go b e ∙ ap (λ k. closed (take k bs) (drop k bs)) found
+    where
+      go : (a : Bool) → a ≡ ended (drop n bs) → cut bs (then_some a n) ≡ closed (take n bs) (drop n bs)
+      go true h = closed_cut bs n (sym h)
+      go false h = open_cut bs n (sym h)

@@ -56,9 +56,6 @@ size_sound bs rest o e = go (then_read (line bs) (λ t behind. cond (minus_one t
         let is : bs ≡ t ++ (crlf ++ behind) = (line_sound bs t behind x.1).1 in
         ⊎_elim (λ h. nil t behind is h.0 h.1) (λ h. some t behind is h.1) (cond_read (minus_one t) (read None behind) (bounded (natural t) behind) o rest x.2)
 
-size_nil : (rest : List ℕ) → size (45 ∷ 49 ∷ (crlf ++ rest)) ≡ read None rest
-size_nil rest = refl
-
 size_complete : (ds rest : List ℕ) (n : ℕ) → natural ds ≡ Some n → n ≤ length rest → size (ds ++ (crlf ++ rest)) ≡ read (Some n) rest
 size_complete ds rest n e h =
     ap (λ r. then r (λ t behind. cond (minus_one t) (read None behind) (bounded (natural t) behind))) (line_complete ds rest (natural_plain ds n e))

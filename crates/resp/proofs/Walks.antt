@@ -1,13 +1,14 @@
 -- What a walk over an array's elements keeps.
-use Rattle.std.proofs.Common.{◌≡◌, ℕ, zero, suc, ◌+◌, ◌-◌, ◌<◌, ◌≤◌, ◌⊎◌, List, length, take, drop, ℤ, Some, None, Option, sym, refl, ap, ◌∙◌, subst, inl, inr, arith}
+use Rattle.std.proofs.Common.{◌≡◌, ℕ, zero, suc, ◌+◌, ◌-◌, ◌<◌, ◌≤◌, ◌⊎◌, List, length, take, drop, ℤ, Some, None, Option, MatchOption, IsSomeAnd, sym, refl, ap, ◌∙◌, subst, inl, inr, arith}
 use Rattle.std.proofs.lemmas.List.{drop-drop, take_rest}
+use Rattle.std.specs.Option.{option_or}
 use Rattle.resp.proofs.Shared.{same_value, same_rest}
 use Rattle.resp.specs.Read.{Read, read, then}
 use Rattle.resp.specs.Reading.{whole, elements, head, several, completed, value}
-use Rattle.resp.specs.Told.{part, shown, told, seen, text_at, moved, Errs, told_walk}
-use Rattle.resp.specs.Value.{Value, simple_string, simple_error, integer, bulk_string, null, array, Values, more, first_error, first_in, or_else}
+use Rattle.resp.specs.Told.{part, shown, told, seen, text_at, further, moved, Errs, told_walk}
+use Rattle.resp.specs.Value.{Value, simple_string, integer, bulk_string, null, array, Values, more, first_error, first_in, or_else}
 use Rattle.resp.specs.declared.place.Head.{Head}
-use Rattle.resp.specs.declared.place.Head.TheVariants.{Simple, Error, Integer, Bulk, Nil, Array}
+use Rattle.resp.specs.declared.place.Head.TheVariants.{Simple, Integer, Bulk, Nil, Array}
 use Rattle.resp.specs.declared.place.Place.{Place}
 use Rattle.resp.specs.declared.place.Token.{Token}
 use Rattle.resp.specs.declared.place.Walk.{Walk}
@@ -36,13 +37,6 @@ joined_none (Some x) = refl
 pub whole_seen : (d : ℕ) (bs : List ℕ) (v : Value) (rest : List ℕ) → read (whole v) rest ≡ head bs → read (first_error v) rest ≡ seen (value d bs)
 whole_seen zero bs v rest e = ap (λ h. seen (then h (completed (λ n behind. None)))) e
 whole_seen (suc d) bs v rest e = ap (λ h. seen (then h (completed (several (value d))))) e
-
-pub none_seen : (d : ℕ) (bs : List ℕ) → None ≡ head bs → None ≡ seen (value d bs)
-none_seen zero bs e = ap (λ h. seen (then h (completed (λ n behind. None)))) e
-none_seen (suc d) bs e = ap (λ h. seen (then h (completed (several (value d))))) e
-
-pub deep_seen : (bs : List ℕ) (n : ℕ) (rest : List ℕ) → read (elements n) rest ≡ head bs → None ≡ seen (value 0 bs)
-deep_seen bs n rest e = ap (λ h. seen (then h (completed (λ k behind. None)))) e
 
 array_seen : (r : Option (Read Values)) → seen (then r (λ vs behind. read (array vs) behind)) ≡ all_seen r
 array_seen None = refl
@@ -96,9 +90,12 @@ errs_more m by None None h k l = tt
 errs_more m by None (Some q) h k l = omega arith
 errs_more m by (Some p) b h k l = h
 
-pub errs_less : (m n : ℕ) (o : Option Place) → m ≤ n → Errs m o → Errs n o
-errs_less m n None l h = tt
-errs_less m n (Some p) l h = omega arith
+-- the first of two errors, of which the later was found `by` bytes further on
+pub or_moved : (P : Place → Place → Type 0) (by : ℕ) (a b r s : Option Place) → MatchOption b (r ≡ None) (λ p. IsSomeAnd r (P p)) → s ≡ option_or a r → ((p q : Place) → b ≡ Some p → P p q → q ≡ further by p) → s ≡ or_else a (moved by b)
+or_moved P by None None r s h e f = e ∙ h
+or_moved P by None (Some p) None s h e f = absurd h
+or_moved P by None (Some p) (Some q) s h e f = e ∙ ap Some (f p q refl h)
+or_moved P by (Some x) b r s h e f = e
 
 -- one turn of the walk over k + 1 elements, the next of which stands at len
 pub walk_more : (one : List ℕ → Option (Read Value)) (k : ℕ) (bs : List ℕ) (len next : ℕ) (a b : Option Place) →
@@ -115,9 +112,6 @@ module _ (depth : ℕ) (bs : List ℕ) (t : Token) (found : told bs (Some t) ≡
   at_head : (h : Head) → t.head ≡ h → read (shown bs h) (drop t.len bs) ≡ head bs
   at_head h is = ap (λ x. read (shown bs x) (drop t.len bs)) (sym is) ∙ found
 
-  pub error_told : (p : Place) → t.head ≡ Error p → read (Some (part bs p)) (drop t.len bs) ≡ seen (value depth bs)
-  error_told p is = whole_seen depth bs (simple_error (part bs p)) (drop t.len bs) (at_head (Error p) is)
-
   pub quiet_told :
       ((p : Place) × (t.head ≡ Simple p)) ⊎ (((z : ℤ) × (t.head ≡ Integer z)) ⊎ (((p : Place) × (t.head ≡ Bulk p)) ⊎ (t.head ≡ Nil))) →
       read None (drop t.len bs) ≡ seen (value depth bs)
@@ -126,16 +120,13 @@ module _ (depth : ℕ) (bs : List ℕ) (t : Token) (found : told bs (Some t) ≡
   quiet_told (inr (inr (inl p))) = whole_seen depth bs (bulk_string (part bs p.0)) (drop t.len bs) (at_head (Bulk p.0) p.1)
   quiet_told (inr (inr (inr is))) = whole_seen depth bs null (drop t.len bs) (at_head Nil is)
 
-  pub deep_told : (n : ℕ) → depth ≡ 0 → t.head ≡ Array n → None ≡ seen (value depth bs)
-  deep_told n none is = subst (λ d. None ≡ seen (value d bs)) (sym none) (deep_seen bs n (drop t.len bs) (at_head (Array n) is))
-
-  pub array_told : (n : ℕ) → 0 < depth → t.head ≡ Array n →
-      joined None (all_seen (several (value (depth - 1)) (n - 0) (drop t.len bs))) ≡ seen (value depth bs)
-  array_told n some is =
-      let one : depth ≡ suc (depth - 1) = omega arith in
+  pub array_told : (n nested : ℕ) → nested + 1 ≡ depth → t.head ≡ Array n →
+      joined None (all_seen (several (value nested) (n - 0) (drop t.len bs))) ≡ seen (value depth bs)
+  array_told n nested one is =
       let all : n - 0 ≡ n = omega arith in
-      ap (λ k. joined None (all_seen (several (value (depth - 1)) k (drop t.len bs)))) all
-      ∙ array_begins (depth - 1) bs n (drop t.len bs) (at_head (Array n) is) ∙ ap (λ d. seen (value d bs)) (sym one)
+      let deep : depth ≡ suc nested = omega arith in
+      ap (λ k. joined None (all_seen (several (value nested) k (drop t.len bs)))) all
+      ∙ array_begins nested bs n (drop t.len bs) (at_head (Array n) is) ∙ ap (λ d. seen (value d bs)) (sym deep)
 
 -- the walk at the element i of n, with the error found so far; the part of the bytes from len on is the code's
 module _ (one : List ℕ → Option (Read Value)) (n i : ℕ) (left : i < n) (bs : List ℕ) (len : ℕ) (a : Option Place) (all : Option (Read (Option (List ℕ)))) (so_far : joined (text_at bs a) (all_seen (several one (n - i) (drop len bs))) ≡ all) where

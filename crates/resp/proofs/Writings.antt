@@ -1,25 +1,20 @@
 -- What writing leaves in memory, and that it reads back.
-use Rattle.std.proofs.Common.{◌≡◌, ℕ, suc, ◌+◌, ◌-◌, ◌*◌, ◌^◌, ◌<◌, Bool, true, false, cond, eqb, leb, List, [], ◌∷◌, ◌++◌, length, take, drop, ℤ, pos, negsuc, nat_abs, Some, None, Option, sym, refl, ap, ◌∙◌, subst, inl, append_assoc, arith, length-append, rules}
-use borrow.Rule.Slice.PartMut.{put_mid}
-use lib.Signed.{mag, lt_z}
+use Rattle.std.proofs.Common.{◌≡◌, ℕ, suc, ◌+◌, ◌-◌, ◌*◌, ◌^◌, ◌<◌, Bool, true, false, cond, eqb, List, [], ◌∷◌, ◌++◌, length, take, drop, ℤ, pos, negsuc, Some, None, sym, refl, ap, ◌∙◌, subst, append_assoc, append-nil, get_or, Bor, arith, length-append, rules}
+use lib.Signed.{mag}
 use Rattle.std.proofs.lemmas.Fmt.{digits_decimal, digits_value-decimal, decimal_nonempty}
-use Rattle.std.proofs.lemmas.List.{drop-drop, drop_at, take_at, length-take-le}
+use Rattle.std.proofs.lemmas.List.{drop-drop, drop_at, take_at, take_more, length-take-le}
+use Rattle.std.proofs.lemmas.List.Concat.{flat_map-append}
+use Rattle.std.specs.List.{flat_map}
 use Rattle.std.proofs.lemmas.Str.Parse.{IsNumeralModel, numerals_by_fold, tells_all_ascii_digits}
-use Rattle.std.proofs.lemmas.Bool.{lt-ltb, le-leb, ltb-true, leb-true, leb-false, and_parts, false≢true}
+use Rattle.std.proofs.lemmas.Bool.{lt-ltb, le-leb, and_parts}
 use Rattle.std.proofs.lemmas.Bool.Decides.{nat_tests}
 use Rattle.std.specs.Fmt as fmt
 use Rattle.std.specs.Str.{all_ascii_digits}
 use Rattle.resp.proofs.Readings.{value_complete}
 use Rattle.resp.specs.Number.{digit, digits, natural, positive, negative, signed}
 use Rattle.resp.specs.Standing.{crlf, Stands}
-use Rattle.resp.specs.Value.{Value, bulk_string, integer, null, array}
-use Rattle.resp.specs.Writing.{bulk_text, integer_text, nil_text, array_text, Written, ReadsBack, Heads}
-
-pub put_is : (at end : ℕ) (old text part : List ℕ) → part ≡ text → end ≡ at + length text → put_mid at (end - at) old part ≡ take at old ++ (text ++ drop end old)
-put_is at end old text part e h =
-    let far : at + (end - at) ≡ end = omega arith in
-    ap (λ l. take at old ++ (l ++ drop (end - at) (drop at old))) e
-    ∙ ap (λ l. take at old ++ (text ++ l)) (drop-drop (end - at) at old ∙ ap (λ k. drop k old) far)
+use Rattle.resp.specs.Value.{Value, bulk_string, integer, array}
+use Rattle.resp.specs.Writing.{bulk_text, integer_text, array_text, Written, ReadsBack, Heads}
 
 -- one text behind another
 pub written_more : (a b old mid new : List ℕ) (at e₁ e₂ : ℕ) → Written a at old mid (Some e₁) → Written b e₁ mid new (Some e₂) → length mid ≡ length old → Written (a ++ b) at old new (Some e₂)
@@ -37,6 +32,14 @@ written_more a b old mid new at e₁ e₂ h k same =
       k.2 ∙ ap (λ l. l ++ (b ++ drop e₂ mid)) left ∙ ap (λ l. (take at old ++ a) ++ (b ++ l)) right
           ∙ append_assoc (take at old) a (b ++ drop e₂ old) ∙ ap (λ l. take at old ++ l) (sym (append_assoc a b (drop e₂ old))),
     )
+
+-- one part more
+pub written_part : (parts : List (Bor (List ℕ))) (i : ℕ) (d : Bor (List ℕ)) → i < length parts → (old mid new : List ℕ) (at e₁ e₂ : ℕ) → Written (flat_map (λ p. p.now) (take i parts)) at old mid (Some e₁) → Written (get_or parts i d).now e₁ mid new (Some e₂) → length mid ≡ length old →
+    Written (flat_map (λ p. p.now) (take (i + 1) parts)) at old new (Some e₂)
+written_part parts i d h old mid new at e₁ e₂ before here same =
+    let all : Bor (List ℕ) → List ℕ = λ p. p.now in
+    let step = ap (flat_map all) (take_more parts i d h) ∙ flat_map-append all (take i parts) (get_or parts i d ∷ []) ∙ ap (λ l. flat_map all (take i parts) ++ l) (append-nil (get_or parts i d).now) in
+    subst (λ l. Written l at old new (Some e₂)) (sym step) (written_more (flat_map all (take i parts)) (get_or parts i d).now old mid new at e₁ e₂ before here same)
 
 -- decimal texts
 abbrev read_on : ℕ → List ℕ → ℕ
@@ -85,38 +88,7 @@ bulk_back t h = reads_back (bulk_string t) (bulk_text t) (fmt.decimal (length t)
 pub integer_back : (z : ℤ) → mag z < 2 ^ 63 → ReadsBack (integer z) (integer_text z)
 integer_back z h = reads_back (integer z) (integer_text z) (fmt.signed_decimal z, signed_back z h, refl)
 
-pub nil_back : ReadsBack null nil_text
-nil_back = reads_back null nil_text (inl refl)
-
 pub array_back : (n : ℕ) → n < 2 ^ 64 → Heads n
 array_back n h vs es e f =
     reads_back (array vs) (array_text n ++ es)
     (fmt.decimal n, es, natural_decimal n h ∙ ap Some (sym e), ap (λ l. 42 ∷ l) (append_assoc (fmt.decimal n) crlf es), f)
-
--- a sign in front
-pub signed_below : (z : ℤ) → lt_z z (pos 0) ≡ true → 45 ∷ fmt.decimal (nat_abs z) ≡ fmt.signed_decimal z
-signed_below (pos n) h = absurd (omega (arith, ltb-true n 0 h))
-signed_below (negsuc n) h = refl
-
-pub signed_above : (z : ℤ) → lt_z z (pos 0) ≡ false → fmt.decimal (nat_abs z) ≡ fmt.signed_decimal z
-signed_above (pos n) h = refl
-signed_above (negsuc n) h = absurd (false≢true (sym h))
-
--- a bulk string in three texts
-module _ (t h : List ℕ) (head : h ≡ 36 ∷ (fmt.decimal (length t) ++ crlf)) where
-  bulk_split : (h ++ t) ++ crlf ≡ bulk_text t
-  bulk_split = ap (λ l. (l ++ t) ++ crlf) head ∙ simp append_assoc
-
-  bulk_length : length (bulk_text t) ≡ length h + length t + 2
-  bulk_length = ap length (sym bulk_split) ∙ length-append (h ++ t) crlf ∙ ap (λ n. n + 2) (length-append h t)
-
-  pub bulk_refused : (old : List ℕ) (at : ℕ) → leb (at + (length h + 2) + length t) (length old) ≡ false → Written (bulk_text t) at old old None
-  bulk_refused old at e = (refl, omega (arith, bulk_length, leb-false (at + (length h + 2) + length t) (length old) e))
-
-  module _ (old m₁ m₂ new : List ℕ) (at e₁ e₂ : ℕ) (first : Written h at old m₁ (Some e₁)) (second : Written t e₁ m₁ m₂ (Some e₂)) (same₁ : length m₁ ≡ length old) (same₂ : length m₂ ≡ length old) where
-    both : Written (h ++ t) at old m₂ (Some e₂)
-    both = written_more h t old m₁ m₂ at e₁ e₂ first second same₁
-
-    pub bulk_written : (r : Option ℕ) → leb (at + (length h + 2) + length t) (length old) ≡ true → Written crlf e₂ m₂ new r → Written (bulk_text t) at old new r
-    bulk_written None room w = absurd (omega (arith, leb-true (at + (length h + 2) + length t) (length old) room, w.1, both.0, length-append h t))
-    bulk_written (Some e) room w = subst (λ l. Written l at old new (Some e)) bulk_split (written_more (h ++ t) crlf old m₂ new at e₂ e both w same₂)

@@ -65,3 +65,12 @@ completed nested (elements n) rest = then (nested n rest) (λ vs behind. read (a
 abbrev pub value : ℕ → List ℕ → Option (Read Value)
 value zero bs = then (head bs) (completed (λ n rest. None))
 value (suc d) bs = then (head bs) (completed (several (value d)))
+
+-- one value, with nothing behind it
+abbrev pub alone : Option (Read Value) → Option Value
+alone None = None
+alone (Some x) = cond (length x.rest == 0) (Some x.value) None
+
+-- the value that the bytes are, with arrays nested at most d deep
+abbrev pub whole_value : ℕ → List ℕ → Option Value
+whole_value d bs = alone (value d bs)

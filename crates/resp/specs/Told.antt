@@ -1,5 +1,8 @@
 -- What the code's numbers tell of the bytes in which they name places.
-use Rattle.std.specs.Prelude.{ℕ, ◌+◌, ◌-◌, ◌≤◌, List, length, take, drop, Some, None, Option}
+use Rattle.std.specs.Prelude.{◌≡◌, ℕ, ◌+◌, ◌-◌, ◌≤◌, List, length, take, drop, Some, None, Option}
+use Rattle.std.specs.Option.{option_map}
+use Rattle.resp.specs.Line.{line}
+use Rattle.resp.specs.Place.{cut}
 use Rattle.resp.specs.Read.{Read, read}
 use Rattle.resp.specs.Reading as reading
 use Rattle.resp.specs.Reading.{whole, elements}
@@ -26,6 +29,11 @@ abbrev pub told : List ℕ → Option Token → Option (Read reading.Head)
 told bs None = None
 told bs (Some t) = read (shown bs t.head) (drop t.len bs)
 
+-- a line behind a type byte, of whose text H tells by a head
+abbrev pub Texted : (Place → Head → Type 0) → List ℕ → Option Token → Type 0
+Texted H rest None = None ≡ line rest
+Texted H rest (Some t) = (n : ℕ) × (t.len ≡ n + 3) × (n + 2 ≤ length rest) × (cut rest (Some n) ≡ line rest) × H (record { start = 1; end = n + 1 }) t.head
+
 -- a place in n bytes
 abbrev pub Inside : ℕ → Place → Type 0
 Inside n p = (p.start ≤ p.end) × (p.end ≤ n)
@@ -41,6 +49,10 @@ Lies n (Array k) = Unit {0}
 abbrev pub Within : List ℕ → Option Token → Type 0
 Within bs None = Unit {0}
 Within bs (Some t) = (t.len ≤ length bs) × Lies (length bs) t.head
+
+-- a token, or none, as the bytes have it at their front
+abbrev pub Tells : List ℕ → Option Token → Type 0
+Tells bs r = Within bs r × (told bs r ≡ reading.head bs)
 
 abbrev pub told_size : List ℕ → Option Size → Option (Read (Option ℕ))
 told_size bs None = None
@@ -64,13 +76,20 @@ text_at bs None = None
 text_at bs (Some p) = Some (part bs p)
 
 -- the same place, counted from n bytes further back
+abbrev pub further : ℕ → Place → Place
+further n p = record { start = n + p.start; end = n + p.end }
+
 abbrev pub moved : ℕ → Option Place → Option Place
 moved n None = None
-moved n (Some p) = Some (record { start = n + p.start; end = n + p.end })
+moved n (Some p) = Some (further n p)
 
 abbrev pub told_walk : List ℕ → Option Walk → Option (Read (Option (List ℕ)))
 told_walk bs None = None
 told_walk bs (Some w) = read (text_at bs w.error) (drop w.len bs)
+
+-- the same of bytes that are one value, where a walk goes over all of them
+abbrev pub told_whole : List ℕ → Option Walk → Option (Option (List ℕ))
+told_whole bs r = option_map (λ w. text_at bs w.error) r
 
 abbrev pub Errs : ℕ → Option Place → Type 0
 Errs n None = Unit {0}

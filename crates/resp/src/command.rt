@@ -1,7 +1,7 @@
 ghost use Rattle.resp.specs.Command.{command as command_of, alone, Commanded, Told};
 ghost use Rattle.resp.specs.Reading.{value};
 
-use crate::place::{Command, Head, Place};
+use crate::place::{Command, Head};
 use crate::token;
 
 const LONGEST: usize = 16384;
@@ -26,29 +26,22 @@ fn words(bytes: &[u8]) -> Option<Command>
     let Head::Array(count) = token.head else {
         return None;
     };
-    let mut at = token.len;
-    let mut first = Place { start: 0, end: 0 };
-    for i in 0..count {
-        let next = token::read(&bytes[at..])?;
-        let Head::Bulk(place) = next.head else {
+    let mut rest = &bytes[token.len..];
+    let mut first = None;
+    for _word in 0..count {
+        let word = token::read(rest)?;
+        let Head::Bulk(place) = word.head else {
             return None;
         };
-        if i == 0 {
-            first = Place {
-                start: at + place.start,
-                end: at + place.end,
-            };
-        }
-        at += next.len;
+        first = first.or(Some(place));
+        rest = &rest[word.len..];
     }
-    if at < bytes.len() {
+    let first = first?;
+    if !rest.is_empty() || count > MOST || first.start == first.end {
         return None;
     }
-    if count > MOST {
-        return None;
-    }
-    if first.start == first.end {
-        return None;
-    }
-    Some(Command { count, first })
+    Some(Command {
+        count,
+        first: first.moved(token.len),
+    })
 }

@@ -8,7 +8,6 @@
 pub mod command;
 mod line;
 pub mod number;
-mod numeral;
 pub mod place;
 #[cfg(test)]
 mod tests;

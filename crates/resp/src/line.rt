@@ -1,76 +1,41 @@
-ghost use Rattle.std.specs.Prelude.{◌≡◌, ℕ, ◌+◌, ◌<◌, ◌≤◌, length, drop, IfSome, slice_index};
+ghost use Rattle.std.specs.Prelude.{◌≡◌, ◌+◌, ◌<◌, ◌≤◌, length, position, IfSome, MatchOption};
+ghost use Rattle.memchr.specs.Find.{IsFirstByte, is_byte2};
 ghost use Rattle.resp.specs.Line.{breaks, plain, ended, line as line_of};
 ghost use Rattle.resp.specs.Place.{cut};
 
-fn is_break(b: u8) -> bool
-    ensures { result ≡ breaks b }
-{
-    b == b'\r' || b == b'\n'
-}
-
-// The least of some bytes.
-fn least(bytes: &[u8]) -> u8
-    ensures { (k : ℕ) → k < length bytes.now → result ≤ slice_index bytes.now k }
-{
-    let mut least = u8::MAX;
-    for b in bytes {
-        if *b < least {
-            least = *b;
-        }
-    }
-    least
-}
-
-// How many bytes at the front, in whole blocks, are all above CR, so that none is CR or LF.
-fn plain_blocks(bytes: &[u8]) -> usize
-    ensures within { result ≤ length bytes.now }
-    ensures value { plain bytes.now ≡ result + plain (drop result bytes.now) }
-{
-    let mut at = 0;
-    while bytes.len() - at >= 16 {
-        if least(&bytes[at..at + 16]) <= b'\r' {
-            return at;
-        }
-        at += 16;
-    }
-    at
-}
-
-// How many bytes stand before the first CR or LF.
-pub(crate) fn plain_len(bytes: &[u8]) -> usize
-    ensures within { result ≤ length bytes.now }
-    ensures value { result ≡ plain bytes.now }
-{
-    for (i, b) in bytes.iter().enumerate() {
-        if is_break(*b) {
-            return i;
-        }
-    }
-    bytes.len()
-}
-
-// The same for a text, which may be long: first in whole blocks.
-fn long_plain_len(bytes: &[u8]) -> usize
-    ensures within { result ≤ length bytes.now }
-    ensures value { result ≡ plain bytes.now }
-{
-    let front = plain_blocks(bytes);
-    for i in front..bytes.len() {
-        if is_break(bytes[i]) {
-            return i;
-        }
-    }
-    bytes.len()
-}
+use memchr::memchr2;
 
 // Whether CR LF stands at the front.
 pub(crate) fn is_ended(bytes: &[u8]) -> bool
     ensures { result ≡ ended bytes.now }
 {
-    match bytes {
-        [b'\r', b'\n', ..] => true,
-        _ => false,
+    matches!(bytes, [b'\r', b'\n', ..])
+}
+
+// Where the first CR or LF stands, by a look at each byte.
+fn near_break(bytes: &[u8]) -> Option<usize>
+    ensures { result ≡ position breaks bytes.now }
+{
+    bytes.iter().position(|b| *b == b'\r' || *b == b'\n')
+}
+
+// The same by vectors, and not inlined, so that a short line stays short code.
+#[inline(never)]
+fn far_break(bytes: &[u8]) -> Option<usize>
+    ensures { IsFirstByte (is_byte2 13 10) bytes.now result }
+{
+    memchr2(b'\r', b'\n', bytes)
+}
+
+// Where the first CR or LF stands, near or far: most lines are short, and vectors alone take longer there.
+fn first_break(bytes: &[u8]) -> Option<usize>
+    ensures { MatchOption result (plain bytes.now ≡ length bytes.now) (λ n. (n < length bytes.now) × (n ≡ plain bytes.now)) }
+{
+    let (near, far) = bytes.split_at(bytes.len().min(16));
+    if let Some(n) = near_break(near) {
+        return Some(n);
     }
+    Some(near.len() + far_break(far)?)
 }
 
 // The line at the front: the length of its text, behind which CR LF stands.
@@ -78,15 +43,6 @@ pub(crate) fn line(bytes: &[u8]) -> Option<usize>
     ensures within { IfSome result (λ n. n + 2 ≤ length bytes.now) }
     ensures value { cut bytes.now result ≡ line_of bytes.now }
 {
-    let n = plain_len(bytes);
-    if is_ended(&bytes[n..]) { Some(n) } else { None }
-}
-
-// The same for a text, which may be long.
-pub(crate) fn text_line(bytes: &[u8]) -> Option<usize>
-    ensures within { IfSome result (λ n. n + 2 ≤ length bytes.now) }
-    ensures value { cut bytes.now result ≡ line_of bytes.now }
-{
-    let n = long_plain_len(bytes);
-    if is_ended(&bytes[n..]) { Some(n) } else { None }
+    let n = first_break(bytes)?;
+    is_ended(&bytes[n..]).then_some(n)
 }

@@ -1,5 +1,5 @@
-ghost use Rattle.std.specs.Prelude.{◌≡◌, ◌^◌, [], ◌∷◌, Some};
-ghost use Rattle.resp.specs.Number.{natural as natural_of, below, digits, signed, positive as positive_of, negative as negative_of};
+ghost use Rattle.std.specs.Prelude.{◌≡◌, ◌^◌, [], ◌∷◌};
+ghost use Rattle.resp.specs.Number.{natural as natural_of, below, digits, signed};
 
 // The number that one or more digits write, if it is below 2^64.
 pub fn natural(text: &[u8]) -> Option<u64>
@@ -9,6 +9,7 @@ pub fn natural(text: &[u8]) -> Option<u64>
         return None;
     }
     let mut n: u64 = 0;
+    // By hand: what `try_fold` comes to is not proved from its contract without an induction of our own.
     for c in text {
         n = with_digit(n, *c)?;
     }
@@ -19,22 +20,8 @@ pub fn natural(text: &[u8]) -> Option<u64>
 fn with_digit(n: u64, c: u8) -> Option<u64>
     ensures { result ≡ below (2 ^ 64) (digits n (c ∷ [])) }
 {
-    if c < b'0' || c > b'9' {
-        return None;
-    }
-    n.checked_mul(10)?.checked_add(u64::from(c - b'0'))
-}
-
-fn positive(n: Option<u64>) -> Option<i64>
-    ensures { result ≡ positive_of n }
-{
-    i64::try_from(n?).ok()
-}
-
-fn negative(n: Option<u64>) -> Option<i64>
-    ensures { result ≡ negative_of n }
-{
-    i64::try_from(-i128::from(n?)).ok()
+    let digit = char::from(c).to_digit(10)?;
+    n.checked_mul(10)?.checked_add(u64::from(digit))
 }
 
 // The number that an optional sign and digits write, within 64 signed bits.
@@ -42,8 +29,7 @@ pub fn integer(text: &[u8]) -> Option<i64>
     ensures { result ≡ signed text.now }
 {
     match text {
-        [b'-', digits @ ..] => negative(natural(digits)),
-        [b'+', digits @ ..] => positive(natural(digits)),
-        _ => positive(natural(text)),
+        [b'-', digits @ ..] => 0i64.checked_sub_unsigned(natural(digits)?),
+        [b'+', digits @ ..] | digits => i64::try_from(natural(digits)?).ok(),
     }
 }

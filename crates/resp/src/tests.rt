@@ -3,86 +3,47 @@ use crate::place::{Head, Place, Token, Walk};
 use crate::{command, token, value, write};
 use std::test::Fail;
 
+// A token of the head and the number of bytes that it takes.
+fn some_token(head: Head, len: usize) -> Option<Token> {
+    Some(Token { head, len })
+}
+
 #[test]
 fn reads_each_kind(rt: HostRuntime) {
-    let text = token::read(b"+OK\r\n");
-    assert!(rt;
-        matches!(
-            text,
-            Some(Token {
-                head: Head::Simple(Place { start: 1, end: 3 }),
-                len: 5
-            })
-        )
+    let text = Head::Simple(Place { start: 1, end: 3 });
+    assert_eq!(rt; token::read(b"+OK\r\n"), some_token(text, 5));
+    let error = Head::Error(Place { start: 1, end: 14 });
+    assert_eq!(rt; token::read(b"-Error message\r\n"), some_token(error, 16));
+    assert_eq!(rt;
+        token::read(b":1000\r\n"),
+        some_token(Head::Integer(1000), 7)
     );
-    let error = token::read(b"-Error message\r\n");
-    assert!(rt;
-        matches!(
-            error,
-            Some(Token {
-                head: Head::Error(Place { start: 1, end: 14 }),
-                len: 16
-            })
-        )
+    let bulk = Head::Bulk(Place { start: 4, end: 9 });
+    assert_eq!(rt; token::read(b"$5\r\nhello\r\n"), some_token(bulk, 11));
+    assert_eq!(rt;
+        token::read(b"*2\r\n:1\r\n:2\r\n"),
+        some_token(Head::Array(2), 4)
     );
-    let number = token::read(b":1000\r\n");
-    assert!(rt;
-        matches!(
-            number,
-            Some(Token {
-                head: Head::Integer(1000),
-                len: 7
-            })
-        )
-    );
-    let bulk = token::read(b"$5\r\nhello\r\n");
-    assert!(rt;
-        matches!(
-            bulk,
-            Some(Token {
-                head: Head::Bulk(Place { start: 4, end: 9 }),
-                len: 11
-            })
-        )
-    );
-    let array = token::read(b"*2\r\n:1\r\n:2\r\n");
-    assert!(rt;
-        matches!(
-            array,
-            Some(Token {
-                head: Head::Array(2),
-                len: 4
-            })
-        )
-    );
-    assert!(rt;
-        matches!(
-            token::read(b"$-1\r\n"),
-            Some(Token {
-                head: Head::Nil,
-                len: 5
-            })
-        )
-    );
-    assert!(rt;
-        matches!(
-            token::read(b"*-1\r\n"),
-            Some(Token {
-                head: Head::Nil,
-                len: 5
-            })
-        )
-    );
-    let errors = value::read(b"*3\r\n:1\r\n*1\r\n-ERR x\r\n-ERR y\r\n+OK\r\n", 8);
-    assert!(rt;
-        matches!(
-            errors,
-            Some(Walk {
-                len: 28,
-                error: Some(Place { start: 13, end: 18 })
-            })
-        )
-    );
+    assert_eq!(rt; token::read(b"$-1\r\n"), some_token(Head::Nil, 5));
+    assert_eq!(rt; token::read(b"*-1\r\n"), some_token(Head::Nil, 5));
+    let errors = Walk {
+        len: 28,
+        error: Some(Place { start: 13, end: 18 }),
+    };
+    let bytes = b"*3\r\n:1\r\n*1\r\n-ERR x\r\n-ERR y\r\n+OK\r\n";
+    assert_eq!(rt; value::read(bytes, 8), Some(errors));
+}
+
+#[test]
+fn moves_a_place(rt: HostRuntime) {
+    let place = Place { start: 1, end: 3 };
+    assert_eq!(rt; place.moved(4), Place { start: 5, end: 7 });
+    assert_eq!(rt; place.moved(4).text(b"*1\r\n+OK\r\n"), b"OK".as_slice());
+    let last = Place {
+        start: usize::MAX,
+        end: usize::MAX,
+    };
+    assert_eq!(rt; place.moved(usize::MAX), last);
 }
 
 const NO_VALUES: [&[u8]; 14] = [
@@ -104,9 +65,19 @@ const NO_VALUES: [&[u8]; 14] = [
 
 #[test]
 fn refuses_what_is_no_value(rt: HostRuntime) {
-    for (i, bytes) in NO_VALUES.iter().enumerate() {
-        assert!(rt; value::read(bytes, 8).is_none(), "{}", i);
+    for bytes in NO_VALUES {
+        assert_eq!(rt; value::read(bytes, 8), None);
     }
+}
+
+#[test]
+fn reads_one_value_alone(rt: HostRuntime) {
+    let walk = Walk {
+        len: 4,
+        error: None,
+    };
+    assert_eq!(rt; value::whole(b"*0\r\n", 8), Some(walk));
+    assert_eq!(rt; value::whole(b"*0\r\n*0\r\n", 8), None);
 }
 
 #[test]
@@ -146,7 +117,7 @@ fn reads_commands(rt: HostRuntime) -> Result<(), Fail> {
     assert_eq!(rt; frame(&mut out, 64), Some(453));
     let most = command::read(&out[0..453]).ok_or("64 words")?;
     assert_eq!(rt; most.count, 64);
-    assert_eq!(rt; (most.first.start, most.first.end), (9, 10));
+    assert_eq!(rt; most.first, Place { start: 9, end: 10 });
     assert_eq!(rt; frame(&mut out, 65), Some(460));
     assert!(rt; command::read(&out).is_none(), "65 words");
     assert!(rt; command::read(b"*01\r\n$4\r\nPING\r\n").is_some());
@@ -172,15 +143,11 @@ fn writes_within_its_room(rt: HostRuntime) {
     assert_eq!(rt; write::bulk_string(&mut out, 32, b""), Some(38));
     let written = b"*3\r\n:-9223372036854775808\r\n$-1\r\n$0\r\n\r\nxx";
     assert!(rt; out == *written);
-    assert!(rt;
-        matches!(
-            value::read(&out, 1),
-            Some(Walk {
-                len: 38,
-                error: None
-            })
-        )
-    );
+    let walk = Walk {
+        len: 38,
+        error: None,
+    };
+    assert_eq!(rt; value::read(&out, 1), Some(walk));
     assert_eq!(rt; write::bulk_string(&mut out, 34, b"a"), None);
     assert_eq!(rt; write::integer(&mut out, 37, 7), None);
     assert_eq!(rt; write::array(&mut out, 37, 7), None);

@@ -1,8 +1,8 @@
 ghost use Rattle.std.specs.Prelude.{◌≡◌, ◌∷◌};
 ghost use Rattle.resp.specs.Reading.{head as head_of, minus_one, size as size_of};
-ghost use Rattle.resp.specs.Told.{told, Within, told_size, Sized};
+ghost use Rattle.resp.specs.Told.{told, Tells, Texted, Within, told_size, Sized};
 
-use crate::line::{is_ended, line, text_line};
+use crate::line::{is_ended, line};
 use crate::number::{integer, natural};
 use crate::place::{Head, Place, Size, Token};
 
@@ -13,46 +13,35 @@ fn is_minus_one(text: &[u8]) -> bool
     matches!(text, [b'-', b'1'])
 }
 
-// The length at the front of `bytes`, which is no larger than what stands behind it.
+// The length at the front of `bytes`, which is no larger than what stands behind it; inlined as `read` is.
+#[inline(always)]
 fn size(bytes: &[u8]) -> Option<Size>
     ensures within { Sized bytes.now result }
     ensures value { told_size bytes.now result ≡ size_of bytes.now }
 {
     let n = line(bytes)?;
-    let text = &bytes[0..n];
+    let text = &bytes[..n];
     let len = n + 2;
     if is_minus_one(text) {
         return Some(Size { len, count: None });
     }
-    let count = natural(text)?;
-    let left = bytes.len() - len;
-    if count > left as u64 {
+    let count = usize::try_from(natural(text)?).ok()?;
+    if count > bytes.len() - len {
         return None;
     }
     Some(Size {
         len,
-        count: Some(count as usize),
+        count: Some(count),
     })
 }
 
-fn simple_string(rest: &[u8]) -> Option<Token>
-    ensures within { Within (43 ∷ rest.now) result }
-    ensures value { told (43 ∷ rest.now) result ≡ head_of (43 ∷ rest.now) }
+// A token whose text is the line behind the type byte; `kind` makes its head.
+fn text<K: FnOnce(Place) -> Head>(rest: &[u8], kind: K) -> Option<Token>
+    requires { K.IsAlwaysCallable kind }
+    ensures { Texted (K.post kind) rest.now result }
 {
-    let n = text_line(rest)?;
-    let head = Head::Simple(Place {
-        start: 1,
-        end: n + 1,
-    });
-    Some(Token { head, len: n + 3 })
-}
-
-fn simple_error(rest: &[u8]) -> Option<Token>
-    ensures within { Within (45 ∷ rest.now) result }
-    ensures value { told (45 ∷ rest.now) result ≡ head_of (45 ∷ rest.now) }
-{
-    let n = text_line(rest)?;
-    let head = Head::Error(Place {
+    let n = line(rest)?;
+    let head = kind(Place {
         start: 1,
         end: n + 1,
     });
@@ -60,11 +49,10 @@ fn simple_error(rest: &[u8]) -> Option<Token>
 }
 
 fn number(rest: &[u8]) -> Option<Token>
-    ensures within { Within (58 ∷ rest.now) result }
-    ensures value { told (58 ∷ rest.now) result ≡ head_of (58 ∷ rest.now) }
+    ensures { Tells (58 ∷ rest.now) result }
 {
     let n = line(rest)?;
-    let z = integer(&rest[0..n])?;
+    let z = integer(&rest[..n])?;
     Some(Token {
         head: Head::Integer(z),
         len: n + 3,
@@ -72,10 +60,10 @@ fn number(rest: &[u8]) -> Option<Token>
 }
 
 fn bulk_string(rest: &[u8]) -> Option<Token>
-    ensures within { Within (36 ∷ rest.now) result }
-    ensures value { told (36 ∷ rest.now) result ≡ head_of (36 ∷ rest.now) }
+    ensures { Tells (36 ∷ rest.now) result }
 {
     let size = size(rest)?;
+    // By hand: Nil ends with its length, and a string has CR LF of its own, so that no combinator serves both.
     let Some(n) = size.count else {
         return Some(Token {
             head: Head::Nil,
@@ -94,31 +82,25 @@ fn bulk_string(rest: &[u8]) -> Option<Token>
 }
 
 fn array(rest: &[u8]) -> Option<Token>
-    ensures within { Within (42 ∷ rest.now) result }
-    ensures value { told (42 ∷ rest.now) result ≡ head_of (42 ∷ rest.now) }
+    ensures { Tells (42 ∷ rest.now) result }
 {
     let size = size(rest)?;
-    let len = size.len + 1;
-    match size.count {
-        None => Some(Token {
-            head: Head::Nil,
-            len,
-        }),
-        Some(n) => Some(Token {
-            head: Head::Array(n),
-            len,
-        }),
-    }
+    Some(Token {
+        head: size.count.map_or(Head::Nil, Head::Array),
+        len: size.len + 1,
+    })
 }
 
-// What stands at the front of `bytes`: a value that is whole, or the head of an array.
+// What stands at the front of `bytes`: a value that is whole, or the head of an array. Inlined, since a call
+// that hands the token over by memory makes a short answer slower by half.
+#[inline(always)]
 pub fn read(bytes: &[u8]) -> Option<Token>
     ensures within { Within bytes.now result }
     ensures value { told bytes.now result ≡ head_of bytes.now }
 {
     match bytes {
-        [b'+', rest @ ..] => simple_string(rest),
-        [b'-', rest @ ..] => simple_error(rest),
+        [b'+', rest @ ..] => text(rest, Head::Simple),
+        [b'-', rest @ ..] => text(rest, Head::Error),
         [b':', rest @ ..] => number(rest),
         [b'$', rest @ ..] => bulk_string(rest),
         [b'*', rest @ ..] => array(rest),

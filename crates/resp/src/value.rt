@@ -1,40 +1,27 @@
-ghost use Rattle.std.specs.Prelude.{◌≡◌, ◌-◌, ◌^◌};
-ghost use Rattle.resp.specs.Reading.{value as value_of};
-ghost use Rattle.resp.specs.Standing.{Stood, Unambiguous};
-ghost use Rattle.resp.specs.Told.{moved, seen, told_walk, Errs, Walked};
-ghost use Rattle.resp.specs.Value.{or_else};
+ghost use Rattle.std.specs.Prelude.{◌≡◌, length, IfSome};
+ghost use Rattle.std.specs.Option.{option_map};
+ghost use Rattle.resp.specs.Reading.{value as value_of, whole_value};
+ghost use Rattle.resp.specs.Standing.{Stood, Sound, Complete, Unambiguous};
+ghost use Rattle.resp.specs.Told.{seen, told_walk, told_whole, Walked};
+ghost use Rattle.resp.specs.Value.{first_error};
 
-use crate::place::{Head, Place, Walk};
+use crate::place::{Head, Walk};
 use crate::token;
-
-// Keeps the first of two errors, of which the later one was found `by` bytes further on.
-fn keep_first(error: &mut Option<Place>, later: Option<Place>, by: usize)
-    requires { Errs (2 ^ 64 - 1 - by) later }
-    ensures { error.new ≡ or_else error.old (moved by later) }
-{
-    if let (None, Some(place)) = (*error, later) {
-        *error = Some(Place {
-            start: by + place.start,
-            end: by + place.end,
-        });
-    }
-}
 
 fn walk(bytes: &[u8], depth: u32) -> Option<Walk>
     ensures within { Walked bytes.now result }
     ensures value { told_walk bytes.now result ≡ seen (value_of depth bytes.now) }
 {
     let token = token::read(bytes)?;
+    // By hand: how far the walk has come is the length told, and what an element's places are moved by.
     let mut len = token.len;
     match token.head {
         Head::Array(count) => {
-            if depth == 0 {
-                return None;
-            }
+            let nested = depth.checked_sub(1)?;
             let mut error = None;
             for _i in 0..count {
-                let next = walk(&bytes[len..], depth - 1)?;
-                keep_first(&mut error, next.error, len);
+                let next = walk(&bytes[len..], nested)?;
+                error = error.or(next.error.map(|place| place.moved(len)));
                 len += next.len;
             }
             Some(Walk { len, error })
@@ -56,7 +43,18 @@ pub fn read(bytes: &[u8], depth: u32) -> Option<Walk>
     ensures within { Walked bytes.now result }
     ensures value { told_walk bytes.now result ≡ seen (value_of depth bytes.now) }
     ensures stands { Stood depth bytes.now result }
+    ensures sound { Sound }
+    ensures complete { Complete }
     ensures once { Unambiguous }
 {
     walk(bytes, depth)
+}
+
+// The one value that the bytes are, with nothing behind it.
+pub fn whole(bytes: &[u8], depth: u32) -> Option<Walk>
+    ensures within { Walked bytes.now result }
+    ensures all { IfSome result (λ w. w.len ≡ length bytes.now) }
+    ensures value { told_whole bytes.now result ≡ option_map first_error (whole_value depth bytes.now) }
+{
+    read(bytes, depth).filter(|walk| walk.len == bytes.len())
 }

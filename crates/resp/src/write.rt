@@ -1,31 +1,36 @@
-ghost use Rattle.std.specs.Prelude.{◌≡◌, ◌+◌, ◌<◌, ◌∷◌, ◌++◌, drop, decimal, nat_le};
-ghost use Rattle.std.specs.Fmt.{signed_decimal as signed_of};
-ghost use Rattle.resp.specs.Standing.{crlf};
+ghost use Rattle.std.specs.Prelude.{◌≡◌, ◌+◌, ◌≤◌, length, Some, flat_map};
 ghost use Rattle.resp.specs.Value.{bulk_string, integer as integer_of, null};
 ghost use Rattle.resp.specs.Writing.{bulk_text, integer_text, nil_text, array_text, Written, ReadsBack, Heads};
 
-use crate::numeral::Numeral;
+use itoa::Buffer;
 
-// `text` from `at` on; without room nothing is written. The answer is where the text ends.
-fn put(out: &mut [u8], at: usize, text: &[u8]) -> Option<usize>
-    ensures { Written text.now at out.old out.new result }
+// `text` from `at` on, where there is room for it; the answer is where it ends.
+fn copy(out: &mut [u8], at: usize, text: &[u8]) -> usize
+    requires { at + length text.now ≤ length out.old }
+    ensures { Written text.now at out.old out.new (Some result) }
 {
-    let end = at.checked_add(text.len())?;
+    let end = at + text.len();
+    out[at..end].copy_from_slice(text);
+    end
+}
+
+// The parts of a text from `at` on; without room for all nothing is written. The answer is where the text ends.
+// `out` and `at` stay apart: the callers hold both, and lent memory holds no struct of ours.
+fn put(out: &mut [u8], at: usize, parts: &[&[u8]]) -> Option<usize>
+    ensures { Written (flat_map (λ part. part.now) parts.now) at out.old out.new result }
+{
+    let mut end = at;
+    for part in parts {
+        end = end.checked_add(part.len())?;
+    }
     if end > out.len() {
         return None;
     }
-    out[at..end].copy_from_slice(text);
+    let mut to = at;
+    for part in parts {
+        to = copy(out, to, part);
+    }
     Some(end)
-}
-
-// A type byte, a number and CR LF.
-fn headed(kind: u8, n: usize) -> Numeral
-    ensures { drop result.start result.bytes ≡ kind ∷ (decimal n ++ crlf) }
-{
-    let mut line = Numeral::ended();
-    line.push_decimal(n as u64);
-    line.push(kind);
-    line
 }
 
 // Nil from `at` on.
@@ -33,7 +38,7 @@ pub fn nil(out: &mut [u8], at: usize) -> Option<usize>
     ensures written { Written nil_text at out.old out.new result }
     ensures back { ReadsBack null nil_text }
 {
-    put(out, at, b"$-1\r\n")
+    put(out, at, &[b"$-1\r\n"])
 }
 
 // The head of an array with `count` elements, which are written behind it.
@@ -41,8 +46,9 @@ pub fn array(out: &mut [u8], at: usize, count: usize) -> Option<usize>
     ensures written { Written (array_text count) at out.old out.new result }
     ensures back { Heads count }
 {
-    let line = headed(b'*', count);
-    put(out, at, line.text())
+    let mut buffer = Buffer::new();
+    let count = buffer.format(count).as_bytes();
+    put(out, at, &[b"*", count, b"\r\n"])
 }
 
 // An integer from `at` on.
@@ -50,28 +56,9 @@ pub fn integer(out: &mut [u8], at: usize, z: i64) -> Option<usize>
     ensures written { Written (integer_text z) at out.old out.new result }
     ensures back { ReadsBack (integer_of z) (integer_text z) }
 {
-    let mut line = signed(z);
-    line.push(b':');
-    put(out, at, line.text())
-}
-
-fn signed(z: i64) -> Numeral
-    ensures room { 0 < result.start }
-    ensures text { drop result.start result.bytes ≡ signed_of z ++ crlf }
-{
-    let mut line = Numeral::ended();
-    line.push_decimal(z.unsigned_abs());
-    if z < 0 {
-        line.push(b'-');
-    }
-    line
-}
-
-// Whether `n` and `m` bytes have room from `at` on.
-fn has_room(len: usize, at: usize, n: usize, m: usize) -> bool
-    ensures { result ≡ nat_le (at + n + m) len }
-{
-    at <= len && n <= len - at && m <= len - at - n
+    let mut buffer = Buffer::new();
+    let digits = buffer.format(z).as_bytes();
+    put(out, at, &[b":", digits, b"\r\n"])
 }
 
 // A bulk string from `at` on.
@@ -79,12 +66,7 @@ pub fn bulk_string(out: &mut [u8], at: usize, text: &[u8]) -> Option<usize>
     ensures written { Written (bulk_text text.now) at out.old out.new result }
     ensures back { ReadsBack (bulk_string text.now) (bulk_text text.now) }
 {
-    let line = headed(b'$', text.len());
-    let head = line.text();
-    if !has_room(out.len(), at, head.len() + 2, text.len()) {
-        return None;
-    }
-    let body = put(out, at, head)?;
-    let end = put(out, body, text)?;
-    put(out, end, b"\r\n")
+    let mut buffer = Buffer::new();
+    let len = buffer.format(text.len()).as_bytes();
+    put(out, at, &[b"$", len, b"\r\n", text, b"\r\n"])
 }

@@ -1,14 +1,8 @@
 use Rattle.resp.proofs.Framed.{commanded, told_short, told_long}
 use Rattle.resp.proofs.command.read.Goals as goal
 
-pub returns-then-bytes-gt-LONGEST : goal.returns-then-bytes-gt-LONGEST
-returns-then-bytes-gt-LONGEST c =
-    let bs = c.args.bytes.now in
-    let told = told_long bs c.if-bytes-gt-LONGEST.true in
-    record { value = told; stands = commanded bs _ told }
+pub returns-then-bytes-gt-LONGEST-clause-stands : goal.returns-then-bytes-gt-LONGEST-clause-stands
+returns-then-bytes-gt-LONGEST-clause-stands c = commanded c.args.bytes.now _ (told_long c.args.bytes.now c.if-bytes-gt-LONGEST.true)
 
-pub returns : goal.returns
-returns c =
-    let bs = c.args.bytes.now in
-    let told = told_short bs c.words.result c.if-bytes-gt-LONGEST.false c.words.ensures in
-    record { value = told; stands = commanded bs c.words.result told }
+pub returns-clause-stands : goal.returns-clause-stands
+returns-clause-stands c = commanded c.args.bytes.now c.words.result (told_short c.args.bytes.now c.words.result c.if-bytes-gt-LONGEST.false c.words.ensures)

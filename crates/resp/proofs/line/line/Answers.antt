@@ -1,18 +1,14 @@
-use Rattle.std.proofs.Common.{sym}
+use Rattle.std.proofs.Common.{◌∙◌, ap}
 use Rattle.std.proofs.lemmas.List.{take_rest}
-use Rattle.resp.proofs.Lines.{closed_fits, closed_cut, open_cut}
+use Rattle.resp.specs.Line.{ended}
+use Rattle.resp.proofs.Lines.{no_line, line_cut}
 use Rattle.resp.proofs.line.line.Goals as goal
 
-pub returns-then-is_ended : goal.returns-then-is_ended
-returns-then-is_ended c =
-    let bs = c.args.bytes.now in
-    let n = c.plain_len-n.result in
-    let e = rw take_rest at (sym c.if-is_ended.ensures) in
-    record { within = closed_fits bs n e; value = rw (← c.plain_len-n.ensures.value) (closed_cut bs n e) }
+pub returns-in_err-n-clause-value : goal.returns-in_err-n-clause-value
+returns-in_err-n-clause-value c = rw c.from_residual.ensures (no_line c.args.bytes.now c.in_err-n.ensures)
 
-pub returns-else-is_ended : goal.returns-else-is_ended
-returns-else-is_ended c =
+pub returns-clause-value : goal.returns-clause-value
+returns-clause-value c =
     let bs = c.args.bytes.now in
-    let n = c.plain_len-n.result in
-    let e = rw take_rest at (sym c.if-is_ended.ensures) in
-    record { within = tt; value = rw (← c.plain_len-n.ensures.value) (open_cut bs n e) }
+    let n = c.in_ok-n.n in
+    rw c.then_some.ensures (line_cut bs n c.in_ok-n.ensures.1 c.is_ended.result (c.is_ended.ensures ∙ ap ended (take_rest bs n)))

@@ -1,6 +1,5 @@
-pub mod Hosts
+pub mod Paddings
 pub mod Ports
-pub mod Fronts
 pub mod Readings
 pub mod Splits
 pub mod Named

@@ -1,30 +1,47 @@
--- What digits come to, one digit at a time.
-use Rattle.std.proofs.Common.{◌≡◌, ℕ, ◌+◌, ◌-◌, ◌*◌, ◌<◌, ◌≤◌, true, false, cond, ◌&&◌, leb, List, [], ◌∷◌, length, get_or, drop, Some, None, ap, ◌∙◌, arith}
-use Rattle.std.proofs.lemmas.List.{at_drop_more, at_drop_all}
-use Rattle.std.proofs.lemmas.Bool.{and_right, le-leb, lt-leb}
-use Rattle.std.specs.Char.{is_ascii_digit}
-use Rattle.std.specs.Str.{all_ascii_digits}
-use Rattle.node.specs.Port.{number, port_on}
+-- The port that digits write is the number that the library parses of them.
+use Rattle.std.proofs.Common.{◌≡◌, ℕ, ◌+◌, ◌-◌, ◌*◌, ◌<◌, ◌≤◌, ◌^◌, Bool, true, false, cond, ◌&&◌, eqb, leb, List, [], ◌∷◌, length, get_or, Some, None, Ok, Err, Result, refl, sym, ap, ◌∙◌, subst, arith, rules}
+use Rattle.std.proofs.lemmas.Bool.{and_parts, and_from, leb-true, le-leb, ne_eqb}
+use Rattle.std.proofs.lemmas.Fmt.{IsAscii-from_digits}
+use Rattle.std.proofs.lemmas.Str.{IsUtf8-from_ascii}
+use Rattle.std.proofs.lemmas.Str.Parse.{IsNumeralModel, numerals_by_fold, parse_plain}
+use Rattle.std.specs.Result.{result_ok, OkIff}
+use Rattle.std.specs.Str.{all_ascii_digits, IsUtf8}
+use Rattle.std.specs.Str.Parse.{ParsesUnsigned}
+use Rattle.node.specs.Port.{number, port_on, port_of}
 
 pub number_grows : (n : ℕ) (ds : List ℕ) → n ≤ number n ds
 number_grows n [] = omega arith
 number_grows n (c ∷ cs) = let more = number_grows (10 * n + (c - 0x30)) cs in omega arith
 
-pub too_large : (n : ℕ) (ds : List ℕ) → 65535 < n → port_on n ds ≡ None
-too_large n ds h =
-    let more = number_grows n ds in
-    ap (λ b. cond b (Some (number n ds)) None) (and_right (all_ascii_digits ds) _ (lt-leb (number n ds) 65535 (omega arith)))
+pub own : IsNumeralModel (λ ds. all_ascii_digits ds ≡ true) (number 0)
+own = numerals_by_fold _ (search rules) number (search rules)
 
-module _ (ds : List ℕ) (n i : ℕ) where
-  pub port_goes : i < length ds → is_ascii_digit (get_or ds i 0) ≡ true → port_on n (drop i ds) ≡ port_on (10 * n + (get_or ds i 0 - 0x30)) (drop (i + 1) ds)
-  port_goes h e =
-      let m : ℕ = number (10 * n + (get_or ds i 0 - 0x30)) (drop (i + 1) ds) in
-      at_drop_more (port_on n) ds i 0 h ∙ ap (λ b. cond (b && all_ascii_digits (drop (i + 1) ds) && leb m 65535) (Some m) None) e
+pub port_so : (ds : List ℕ) (p : ℕ) → all_ascii_digits ds ≡ true → number 0 ds ≡ p → 0 < length ds → 0x30 < get_or ds 0 0 → p ≤ 65535 → port_of ds ≡ Some p
+port_so [] p digits is some first high = absurd (omega arith)
+port_so (c ∷ cs) p digits is some first high =
+    let lead : eqb c 0x30 ≡ false = ne_eqb c 0x30 (omega arith) in
+    let small : leb (number 0 (c ∷ cs)) 65535 ≡ true = le-leb (number 0 (c ∷ cs)) 65535 (omega arith) in
+    ap (λ b. cond b None (port_on 0 (c ∷ cs))) lead ∙ ap (λ b. cond b (Some (number 0 (c ∷ cs))) None) (and_from (all_ascii_digits (c ∷ cs)) _ digits small) ∙ ap Some is
 
-  pub port_stops : i < length ds → is_ascii_digit (get_or ds i 0) ≡ false → port_on n (drop i ds) ≡ None
-  port_stops h e =
-      let m : ℕ = number (10 * n + (get_or ds i 0 - 0x30)) (drop (i + 1) ds) in
-      at_drop_more (port_on n) ds i 0 h ∙ ap (λ b. cond (b && all_ascii_digits (drop (i + 1) ds) && leb m 65535) (Some m) None) e
+unless : (t u : Bool) (n : ℕ) → (u ≡ true → ⊥) → cond t None (cond u (Some n) None) ≡ None
+unless true u n h = refl
+unless false true n h = absurd (h refl)
+unless false false n h = refl
 
-  pub port_ends : length ds ≤ i → n ≤ 65535 → port_on n (drop i ds) ≡ Some n
-  port_ends h k = at_drop_all (port_on n) ds i h ∙ ap (λ b. cond b (Some n) None) (le-leb n 65535 k)
+no_port : (ds : List ℕ) → (all_ascii_digits ds ≡ true → 0 < length ds → number 0 ds ≤ 65535 → ⊥) → port_of ds ≡ None
+no_port [] h = refl
+no_port (c ∷ cs) h =
+    let n : ℕ = number 0 (c ∷ cs) in
+    let digits : Bool = all_ascii_digits (c ∷ cs) in
+    unless (eqb c 0x30) (digits && leb n 65535) n (λ e. let p = and_parts digits (leb n 65535) e in h p.0 (omega arith) (leb-true n 65535 p.1))
+
+pub no_text : (ds : List ℕ) → (IsUtf8 ds → ⊥) → port_of ds ≡ None
+no_text ds h = no_port ds (λ digits some small. h (IsUtf8-from_ascii ds (IsAscii-from_digits ds (own.to ds digits))))
+
+as_port : {E : Type 0} (ds : List ℕ) (r : Result ℕ E) → 0x30 < get_or ds 0 0 → OkIff r ((all_ascii_digits ds ≡ true) × (0 < length ds) × (number 0 ds < 2 ^ 16)) (number 0 ds) → result_ok r ≡ port_of ds
+as_port ds (Ok p) first so = ap Some so.1 ∙ sym (port_so ds (number 0 ds) so.0.0 refl so.0.1 first (omega (arith, so.0.2)))
+as_port ds (Err e) first so = sym (no_port ds (λ digits some small. so (digits, some, omega (arith, small))))
+
+pub parsed_port : {E : Type 0} (ds text : List ℕ) (r : Result ℕ E) → 0x30 < get_or ds 0 0 → text ≡ ds → ParsesUnsigned 16 10 text r → result_ok r ≡ port_of ds
+parsed_port {E} ds text r first same h =
+    as_port ds r first (parse_plain own {E = E} 16 ds r (subst (λ t. ParsesUnsigned 16 10 t r) same h) (λ plus. omega (arith, plus)))

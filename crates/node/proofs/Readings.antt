@@ -1,22 +1,18 @@
 -- `readable` is the rule.
-use Rattle.std.proofs.Common.{◌≡◌, ℕ, suc, ◌+◌, ◌-◌, ◌*◌, ◌^◌, ◌<◌, ◌≤◌, Bool, true, false, cond, ◌&&◌, eqb, leb, List, [], ◌∷◌, ◌++◌, length, get_or, take, drop, is_some, Some, None, decimal, Option, sym, refl, ap, ◌∙◌, subst, arith, take-append-drop, rules}
+use Rattle.std.proofs.Common.{◌≡◌, ℕ, suc, ◌+◌, ◌-◌, ◌*◌, ◌^◌, ◌<◌, ◌≤◌, Bool, true, false, cond, ◌&&◌, eqb, leb, List, [], ◌∷◌, ◌++◌, length, take, drop, is_some, Some, None, decimal, Option, sym, refl, ap, ◌∙◌, subst, arith, take-append-drop}
 use Rattle.std.proofs.lemmas.Fmt.{digits_decimal, digits_value-decimal, decimal-digits_value, decimal_nonempty, first_decimal}
 use Rattle.std.proofs.lemmas.List.{length-take-le, take_at, drop_at}
-use Rattle.std.proofs.lemmas.Str.Parse.{IsNumeralModel, numerals_by_fold}
-use Rattle.std.proofs.lemmas.Bool.{false≢true, and_parts, and_from, leb-true, le-leb, eqb-true, eqb-false, ne_eqb}
+use Rattle.std.proofs.lemmas.Bool.{false≢true, and_parts, and_from, leb-true, le-leb, eqb-true, eqb-false}
 use Rattle.std.proofs.lemmas.Bool.Decides.{nat_tests}
 use Rattle.std.specs.Option.{option_map}
 use Rattle.std.specs.Char.{is_ascii_digit}
-use Rattle.std.specs.List.{AllByRecursion}
+use Rattle.std.specs.List.{AllByRecursion, prefix_len}
 use Rattle.std.specs.Str.{all_ascii_digits}
 use Rattle.node.specs.Named.{Named}
 use Rattle.node.specs.Port.{number, port_on, port_of}
 use Rattle.node.specs.Readable.{HostByte, Readable, Answer, Readings}
 use Rattle.node.specs.Text.{plain, host_len, port_behind, reading, readable}
-use Rattle.node.proofs.Ports.{number_grows}
-
-own : IsNumeralModel (λ ds. all_ascii_digits ds ≡ true) (number 0)
-own = numerals_by_fold _ (search rules) number (search rules)
+use Rattle.node.proofs.Ports.{number_grows, own, port_so}
 
 module _ {A : Type 0} where
   if_so : (b : Bool) (o : Option A) (x : A) → cond b o None ≡ Some x → (b ≡ true) × (o ≡ Some x)
@@ -50,13 +46,6 @@ port_right (c ∷ cs) p e =
       high = omega arith;
     }
 
-port_so : (ds : List ℕ) (p : ℕ) → all_ascii_digits ds ≡ true → number 0 ds ≡ p → 0 < length ds → 0x30 < get_or ds 0 0 → p ≤ 65535 → port_of ds ≡ Some p
-port_so [] p digits is some first high = absurd (omega arith)
-port_so (c ∷ cs) p digits is some first high =
-    let lead : eqb c 0x30 ≡ false = ne_eqb c 0x30 (omega arith) in
-    let small : leb (number 0 (c ∷ cs)) 65535 ≡ true = le-leb (number 0 (c ∷ cs)) 65535 (omega arith) in
-    ap (λ b. cond b None (port_on 0 (c ∷ cs))) lead ∙ ap (λ b. cond b (Some (number 0 (c ∷ cs))) None) (and_from (all_ascii_digits (c ∷ cs)) _ digits small) ∙ ap Some is
-
 port_complete : (p : ℕ) → 1 ≤ p → p ≤ 65535 → port_of (decimal p) ≡ Some p
 port_complete p low high =
     let fits : p < 2 ^ 64 = omega arith in
@@ -69,6 +58,13 @@ byte_plain : (b : ℕ) → HostByte b → plain b ≡ true
 byte_plain b h = grind (arith, nat_tests)
 
 module _ (x : ℕ) (xs : List ℕ) where
+  host_one : (t : Bool) → length (take (cond t (1 + prefix_len plain xs) 0) (x ∷ xs)) ≡ cond t (suc (host_len xs)) 0
+  host_one true = let one : 1 + prefix_len plain xs ≡ suc (prefix_len plain xs) = omega arith in ap (λ n. length (take n (x ∷ xs))) one
+  host_one false = refl
+
+  host_more : host_len (x ∷ xs) ≡ cond (plain x) (suc (host_len xs)) 0
+  host_more = host_one (plain x)
+
   front_one : (t : Bool) → plain x ≡ t → AllByRecursion HostByte (take (host_len xs) xs) → AllByRecursion HostByte (take (cond t (suc (host_len xs)) 0) (x ∷ xs))
   front_one true e h = (plain_byte x e, h)
   front_one false e h = tt
@@ -79,16 +75,17 @@ module _ (x : ℕ) (xs : List ℕ) where
 
 front_plain : (bs : List ℕ) → AllByRecursion HostByte (take (host_len bs) bs)
 front_plain [] = tt
-front_plain (x ∷ xs) = front_one x xs (plain x) refl (front_plain xs)
+front_plain (x ∷ xs) =
+    subst (λ n. AllByRecursion HostByte (take n (x ∷ xs))) (sym (host_more x xs)) (front_one x xs (plain x) refl (front_plain xs))
 
 pub front_within : (bs : List ℕ) → host_len bs ≤ length bs
 front_within [] = omega arith
-front_within (x ∷ xs) = within_one x xs (plain x) (front_within xs)
+front_within (x ∷ xs) = subst (λ n. n ≤ length (x ∷ xs)) (sym (host_more x xs)) (within_one x xs (plain x) (front_within xs))
 
 front_is : (host rest : List ℕ) → AllByRecursion HostByte host → host_len (host ++ (0x3A ∷ rest)) ≡ length host
 front_is [] rest h = refl
 front_is (x ∷ xs) rest h =
-    ap (λ t. cond t (suc (host_len (xs ++ (0x3A ∷ rest)))) 0) (byte_plain x h.0) ∙ ap suc (front_is xs rest h.1)
+    host_more x (xs ++ (0x3A ∷ rest)) ∙ ap (λ t. cond t (suc (host_len (xs ++ (0x3A ∷ rest)))) 0) (byte_plain x h.0) ∙ ap suc (front_is xs rest h.1)
 
 -- a colon with the digits of a port behind it
 record Behind (bs : List ℕ) (p : ℕ) : Type 0 where

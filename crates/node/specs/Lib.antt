@@ -1,5 +1,7 @@
-pub mod Padded
+pub mod Bytes
 pub mod Host
+pub mod Padded
+pub mod ByteKeys
 pub mod Named
 pub mod Address
 pub mod Port
@@ -9,3 +11,4 @@ pub mod Order
 pub mod Same
 pub mod Made
 pub mod Ranks
+pub mod PaddedHost

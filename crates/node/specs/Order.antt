@@ -1,14 +1,8 @@
 -- The order of addresses: by the bytes of the host, then by the port.
-use Rattle.std.specs.Prelude.{◌≡◌, ℕ, ◌<◌, ◌⊎◌, List, [], ◌∷◌}
+use Rattle.std.specs.Prelude.{◌≡◌, ◌<◌, ◌⊎◌}
 use Rattle.node.specs.Address.{host_of}
+use Rattle.node.specs.Bytes.{Before}
 use Rattle.node.specs.declared.address.NodeAddress.{NodeAddress}
-
--- the smaller byte where the two first differ, and a text before what it begins
-abbrev pub Before : List ℕ → List ℕ → Type 0
-Before [] [] = ⊥
-Before [] (y ∷ ys) = Unit {0}
-Before (x ∷ xs) [] = ⊥
-Before (x ∷ xs) (y ∷ ys) = (x < y) ⊎ ((x ≡ y) × Before xs ys)
 
 abbrev pub Below : NodeAddress → NodeAddress → Type 0
 Below a b = Before (host_of a) (host_of b) ⊎ ((host_of a ≡ host_of b) × (a.port < b.port))

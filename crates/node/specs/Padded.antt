@@ -3,7 +3,10 @@ use Rattle.std.specs.Prelude.{◌≡◌, ℕ, zero, suc, ◌-◌, ◌≤◌, Boo
 use Rattle.std.proofs.Common.{sym, ap, ◌∙◌, arith, length-append, length-drop, take-append-drop}
 use Rattle.std.proofs.lemmas.List.{length-take-le, take_at, drop_at, length-replicate}
 use Rattle.std.proofs.lemmas.Bool.{and_parts, and_from, eqb-true, eq-eqb, leb-true, le-leb}
-use Rattle.node.specs.Host.{all_zero}
+
+abbrev pub all_zero : List ℕ → Bool
+all_zero [] = true
+all_zero (b ∷ bs) = b == 0 && all_zero bs
 
 -- n bytes, and zeros behind them
 abbrev pub padded : List ℕ → ℕ → Bool

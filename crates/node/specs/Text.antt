@@ -1,5 +1,6 @@
 -- What a text reads as: a host, a colon and a port.
-use Rattle.std.specs.Prelude.{ℕ, suc, Bool, cond, not, ◌&&◌, List, [], ◌∷◌, take, drop, None, Option, ◌==◌, nat_le}
+use Rattle.std.specs.Prelude.{ℕ, Bool, cond, not, ◌&&◌, List, [], ◌∷◌, length, take, drop, None, Option, ◌==◌, nat_le}
+use Rattle.std.specs.List.{take_while}
 use Rattle.std.specs.Option.{option_map}
 use Rattle.node.specs.Host.{visible}
 use Rattle.node.specs.Port.{port_of}
@@ -11,8 +12,7 @@ plain b = visible b && not (b == 0x3A) && not (b == 0x5B) && not (b == 0x5D)
 
 -- how many bytes at the front are plain
 abbrev pub host_len : List ℕ → ℕ
-host_len [] = 0
-host_len (b ∷ bs) = cond (plain b) (suc (host_len bs)) 0
+host_len bs = length (take_while plain bs)
 
 -- a colon at the front, and a port behind it
 abbrev pub port_behind : List ℕ → Option ℕ

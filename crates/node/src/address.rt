@@ -1,18 +1,17 @@
 ghost use Rattle.std.specs.Prelude.{◌≡◌, true};
-ghost use Rattle.node.specs.Host.{padded_host};
+ghost use Rattle.node.specs.ByteKeys.{bytes_of};
+ghost use Rattle.node.specs.Host.{host_form};
 
-use crate::host::LONGEST;
+use crate::byte_key::ByteKey;
 
 mod methods;
 mod order;
 
-pub use order::order_is_total;
+pub use order::{comparison_is_the_order, equality_is_sameness, order_is_total};
 
-#[derive(Clone, Copy)]
+#[derive(Clone, Copy, Debug, PartialEq, Eq, PartialOrd, Ord)]
 pub struct NodeAddress {
-    host: [u8; LONGEST],
-    len: u8,
+    host: ByteKey,
     port: u16,
-    // With zeros behind the host, one address has one form only.
-    ghost formed: { padded_host host len ≡ true },
+    ghost formed: { host_form (bytes_of host) ≡ true },
 }

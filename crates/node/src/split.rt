@@ -4,11 +4,11 @@ ghost use Rattle.node.specs.Named.{parted};
 ghost use Rattle.node.specs.Readable.{Answer, Readings};
 ghost use Rattle.node.specs.Text.{plain, host_len, port_behind, readable};
 
-use crate::host::{LONGEST, is_visible};
+use crate::byte_key::LONGEST;
 use crate::port::port;
 
 // Where a text splits: its first `host` bytes are the host.
-#[derive(Clone, Copy)]
+#[derive(Clone, Copy, Debug, PartialEq, Eq)]
 pub struct Split {
     pub host: usize,
     pub port: u16,
@@ -18,7 +18,7 @@ pub struct Split {
 fn is_plain(b: u8) -> bool
     ensures { result ≡ plain b }
 {
-    is_visible(b) && b != b':' && b != b'[' && b != b']'
+    b.is_ascii_graphic() && b != b':' && b != b'[' && b != b']'
 }
 
 // How far a host would go.
@@ -26,21 +26,13 @@ fn plain_len(text: &[u8]) -> usize
     ensures within { result ≤ length text.now }
     ensures value { result ≡ host_len text.now }
 {
-    for (i, b) in text.iter().enumerate() {
-        if !is_plain(*b) {
-            return i;
-        }
-    }
-    text.len()
+    text.iter().take_while(|b| is_plain(**b)).count()
 }
 
 fn port_after_colon(text: &[u8]) -> Option<u16>
     ensures { result ≡ port_behind text.now }
 {
-    match text {
-        [b':', digits @ ..] => port(digits),
-        _ => None,
-    }
+    port(text.strip_prefix(b":")?)
 }
 
 // The host and the port that the text reads as: `host:port`, with no other colon and no bracket, and
@@ -51,7 +43,7 @@ pub fn split_node_address(text: &[u8]) -> Option<Split>
     ensures answer { Answer text.now (option_map (parted text.now) result) }
 {
     let host = plain_len(text);
-    if host < 1 || host > LONGEST {
+    if !(1..=LONGEST).contains(&host) {
         return None;
     }
     let port = port_after_colon(&text[host..])?;

@@ -21,27 +21,27 @@ fn splits_host_and_port(rt: HostRuntime) -> Result<(), Fail> {
 
 #[test]
 fn refuses_other_ports(rt: HostRuntime) {
-    assert!(rt; split_node_address(b"h:0").is_none());
-    assert!(rt; split_node_address(b"h:01").is_none());
-    assert!(rt; split_node_address(b"h:+1").is_none());
-    assert!(rt; split_node_address(b"h:65536").is_none());
-    assert!(rt; split_node_address(b"h:99999999999999999999").is_none());
-    assert!(rt; split_node_address(b"h:").is_none());
+    assert_eq!(rt; split_node_address(b"h:0"), None);
+    assert_eq!(rt; split_node_address(b"h:01"), None);
+    assert_eq!(rt; split_node_address(b"h:+1"), None);
+    assert_eq!(rt; split_node_address(b"h:65536"), None);
+    assert_eq!(rt; split_node_address(b"h:99999999999999999999"), None);
+    assert_eq!(rt; split_node_address(b"h:"), None);
 }
 
 #[test]
 fn refuses_other_hosts(rt: HostRuntime) {
-    assert!(rt; split_node_address(b"").is_none());
-    assert!(rt; split_node_address(b":1").is_none());
-    assert!(rt; split_node_address(b"[h]:1").is_none());
-    assert!(rt; split_node_address(b"a:b:1").is_none());
-    assert!(rt; split_node_address(b"::1:5").is_none());
-    assert!(rt; split_node_address(b"a b:1").is_none());
-    assert!(rt; split_node_address(b"caf\xc3\xa9:1").is_none());
+    assert_eq!(rt; split_node_address(b""), None);
+    assert_eq!(rt; split_node_address(b":1"), None);
+    assert_eq!(rt; split_node_address(b"[h]:1"), None);
+    assert_eq!(rt; split_node_address(b"a:b:1"), None);
+    assert_eq!(rt; split_node_address(b"::1:5"), None);
+    assert_eq!(rt; split_node_address(b"a b:1"), None);
+    assert_eq!(rt; split_node_address(b"caf\xc3\xa9:1"), None);
     let mut long = [b'h'; 67];
     long[65] = b':';
     long[66] = b'1';
-    assert!(rt; split_node_address(&long).is_none(), "a host of 65 bytes");
+    assert_eq!(rt; split_node_address(&long), None, "a host of 65 bytes");
 }
 
 #[test]
@@ -53,7 +53,7 @@ fn ascends_by_host_then_port(rt: HostRuntime) -> Result<(), Fail> {
     assert!(rt; a2 < a10);
     assert!(rt; a10 < aa);
     assert!(rt; aa < b);
-    assert!(rt; NodeAddress::new(b"a", 2).ok_or(())? == a2);
-    assert!(rt; a2 != a10);
+    assert_eq!(rt; NodeAddress::new(b"a", 2), Some(a2));
+    assert_ne!(rt; a2, a10);
     Ok(())
 }

@@ -1,5 +1,6 @@
 -- What `find` tells of the first n entries of a slice, which is the least of n and the slice's length.
-use Rattle.std.proofs.Common.{◌≡◌, ℕ, ◌-◌, min, true, List, length, take, Result, Ordering, subst, arith}
+use Rattle.std.proofs.Common.{◌≡◌, ℕ, min, true, List, length, take, Some, Ok, Err, Result, Ordering, subst, arith}
+use Rattle.std.specs.Result.{result_ok}
 use Rattle.ordered.specs.Edits.{Table}
 use Rattle.ordered.specs.Table.{ascending, Found}
 
@@ -7,7 +8,11 @@ module _ {E K : Type 0} (key : E → K) (rank : K → K → Ordering) (old : Lis
   pub all_of_it : m ≡ n
   all_of_it = omega (arith, table.0)
 
-  pub found_in_front : (k q : K) (r : Result ℕ ℕ) → k ≡ q → (ascending key rank (take (m - 0) old) ≡ true → Found key rank (take (m - 0) old) k r) → Found key rank (take n old) q r
+  pub found_in_front : (k q : K) (r : Result ℕ ℕ) → k ≡ q → (ascending key rank (take m old) ≡ true → Found key rank (take m old) k r) → Found key rank (take n old) q r
   found_in_front k q r e found =
-      let same : m - 0 ≡ n = omega (arith, table.0) in
+      let same : m ≡ n = omega (arith, table.0) in
       subst (λ w. Found key rank (take n old) w r) e (subst (λ j. ascending key rank (take j old) ≡ true → Found key rank (take j old) k r) same found table.1)
+
+pub told : (r : Result ℕ ℕ) (i : ℕ) → Some i ≡ result_ok r → r ≡ Ok i
+told (Ok j) i h = cc
+told (Err e) i h = cc

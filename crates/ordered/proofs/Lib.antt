@@ -7,5 +7,6 @@ pub mod Insertions
 pub mod Fronts
 pub mod Withouts
 pub mod Removals
-pub mod Paddings
 pub mod Owners
+pub mod Tables
+pub mod Searches

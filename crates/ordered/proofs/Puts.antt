@@ -1,10 +1,10 @@
 -- What `put` makes of a table.
-use Rattle.std.proofs.Common.{◌≡◌, ℕ, zero, suc, ◌<◌, ◌≤◌, true, cond, List, [], ◌∷◌, ◌++◌, length, get_or, take, drop, set, Some, Ordering, Less, Equal, Greater, sym, refl, ap, ◌∙◌, subst, arith}
+use Rattle.std.proofs.Common.{◌≡◌, ℕ, zero, suc, ◌<◌, ◌≤◌, true, cond, List, [], ◌∷◌, ◌++◌, length, get_or, take, drop, set, Some, Ordering, Less, Equal, Greater, sym, refl, ap, ◌∙◌, arith}
 use Rattle.std.proofs.lemmas.Bool.{and_parts, and_from}
 use Rattle.std.specs.Ordering.{is_eq, is_lt}
 use Rattle.ordered.specs.Edits.{Changed}
 use Rattle.ordered.specs.Table.{by, above, ascending, lookup, put, Rank}
-use Rattle.ordered.specs.Total.{Total}
+use Rattle.std.specs.Cmp.{IsTotalOrder, tied_itself}
 use Rattle.ordered.proofs.Ascents.{above_chain, above_same}
 use Rattle.ordered.proofs.Lookups.{lookup_passes, lookup_other}
 use Rattle.ordered.proofs.Ranks.{less}
@@ -33,18 +33,18 @@ module _ {E K : Type 0} (key : E → K) (rank : K → K → Ordering) (e : E) wh
       go Equal ih = and_from _ _ (ap is_lt l) (and_parts _ (above key rank x ys) h).1
       go Greater ih = and_from _ _ (ap is_lt l) h
 
-  module _ (total : Total rank) where
+  module _ (total : IsTotalOrder rank) where
     ascending_put : (xs : List E) → ascending key rank xs ≡ true → ascending key rank (put key rank e xs) ≡ true
     ascending_put [] h = refl
     ascending_put (x ∷ xs) h = go (rank (key x) (key e)) refl (ascending_put xs (and_parts _ (ascending key rank xs) h).1)
       where
         go : (o : Ordering) → rank (key x) (key e) ≡ o → ascending key rank (put key rank e xs) ≡ true → ascending key rank (by o (x ∷ put key rank e xs) (e ∷ xs) (e ∷ x ∷ xs)) ≡ true
         go Less q ih = and_from _ _ (above_put x xs q (and_parts _ (ascending key rank xs) h).0) ih
-        go Equal q ih = and_from _ _ (above_same key rank x e xs (total.same _ _ q) (and_parts _ (ascending key rank xs) h).0) (and_parts _ (ascending key rank xs) h).1
+        go Equal q ih = and_from _ _ (above_same key rank total x e xs q (and_parts _ (ascending key rank xs) h).0) (and_parts _ (ascending key rank xs) h).1
         go Greater q ih = and_from _ _ (and_from _ _ (ap is_lt (less total _ _ q)) (above_chain key rank total e x xs (less total _ _ q) (and_parts _ (ascending key rank xs) h).0)) h
 
     lookup_first : (xs : List E) → lookup key rank (key e) (e ∷ xs) ≡ Some e
-    lookup_first xs = ap (λ o. cond (is_eq o) (Some e) (lookup key rank (key e) xs)) (total.itself (key e))
+    lookup_first xs = ap (λ o. cond (is_eq o) (Some e) (lookup key rank (key e) xs)) (tied_itself total (key e))
 
     lookup_put : (xs : List E) → lookup key rank (key e) (put key rank e xs) ≡ Some e
     lookup_put [] = lookup_first []
@@ -61,7 +61,7 @@ module _ {E K : Type 0} (key : E → K) (rank : K → K → Ordering) (e : E) wh
       where
         go : (o : Ordering) → rank (key x) (key e) ≡ o → lookup key rank k (put key rank e xs) ≡ lookup key rank k xs → lookup key rank k (by o (x ∷ put key rank e xs) (e ∷ xs) (e ∷ x ∷ xs)) ≡ lookup key rank k (x ∷ xs)
         go Less q ih = ap (cond (is_eq (rank (key x) k)) (Some x)) ih
-        go Equal q ih = lookup_other key rank k e xs n ∙ sym (lookup_other key rank k x xs (subst (λ w. rank w k ≡ Equal → ⊥) (sym (total.same _ _ q)) n))
+        go Equal q ih = lookup_other key rank k e xs n ∙ sym (lookup_other key rank k x xs (λ i. n (sym (total.congr _ _ k q) ∙ i)))
         go Greater q ih = lookup_other key rank k e (x ∷ xs) n
 
     pub changed_put : (xs : List E) → ascending key rank xs ≡ true → Changed key rank (key e) (Some e) xs (put key rank e xs)

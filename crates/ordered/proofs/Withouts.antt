@@ -1,10 +1,10 @@
 -- What `without` leaves of a table.
-use Rattle.std.proofs.Common.{◌≡◌, ℕ, zero, suc, ◌<◌, Bool, true, false, cond, List, [], ◌∷◌, ◌++◌, length, get_or, take, drop, Some, None, Ordering, Less, Equal, Greater, sym, refl, ap, ◌∙◌, subst, arith}
+use Rattle.std.proofs.Common.{◌≡◌, ℕ, zero, suc, ◌+◌, ◌<◌, Bool, true, false, cond, List, [], ◌∷◌, ◌++◌, length, get_or, take, drop, Some, None, Ordering, Less, Equal, Greater, sym, refl, ap, ◌∙◌, arith}
 use Rattle.std.proofs.lemmas.Bool.{and_parts, and_from}
 use Rattle.std.specs.Ordering.{is_eq}
 use Rattle.ordered.specs.Edits.{Changed}
 use Rattle.ordered.specs.Table.{above, ascending, lookup, without, Rank}
-use Rattle.ordered.specs.Total.{Total}
+use Rattle.std.specs.Cmp.{IsTotalOrder}
 use Rattle.ordered.proofs.Ascents.{above_at}
 use Rattle.ordered.proofs.Lookups.{lookup_passes, lookup_other, lookup_absent}
 use Rattle.ordered.proofs.Ranks.{greater}
@@ -17,6 +17,14 @@ module _ {E K : Type 0} (key : E → K) (rank : K → K → Ordering) (k : K) wh
   without_there [] i l before there = absurd (omega arith)
   without_there (x ∷ xs) zero l before there = without_by x xs Equal (there x)
   without_there (x ∷ xs) (suc i) l before there = without_by x xs Less (before 0 x (omega arith) (omega arith)) ∙ ap (λ ys. x ∷ ys) (without_there xs i (omega arith) (λ j d m n. before (suc j) d (omega arith) (omega arith)) there)
+
+  pub length-without : (xs : List E) (e : E) → lookup key rank k xs ≡ Some e → length (without key rank k xs) + 1 ≡ length xs
+  length-without [] e h = cc
+  length-without (x ∷ xs) e h = go (is_eq (rank (key x) k)) (length-without xs e) h
+    where
+      go : (b : Bool) → (lookup key rank k xs ≡ Some e → length (without key rank k xs) + 1 ≡ length xs) → cond b (Some x) (lookup key rank k xs) ≡ Some e → length (cond b xs (x ∷ without key rank k xs)) + 1 ≡ length (x ∷ xs)
+      go true ih h = omega arith
+      go false ih h = omega (arith, ih h)
 
   above_without : (x : E) (ys : List E) → above key rank x ys ≡ true → above key rank x (without key rank k ys) ≡ true
   above_without x [] h = h
@@ -34,9 +42,9 @@ module _ {E K : Type 0} (key : E → K) (rank : K → K → Ordering) (k : K) wh
       go true ih = (and_parts _ (ascending key rank xs) h).1
       go false ih = and_from _ _ (above_without x xs (and_parts _ (ascending key rank xs) h).0) ih
 
-  module _ (total : Total rank) where
+  module _ (total : IsTotalOrder rank) where
     lookup_behind : (x : E) (xs : List E) → rank (key x) k ≡ Equal → above key rank x xs ≡ true → lookup key rank k xs ≡ None
-    lookup_behind x xs q h = lookup_absent key rank k xs 0 (λ j d m n. absurd (omega arith)) (λ j d m n. greater total k _ (subst (λ w. rank w (key (get_or xs j d)) ≡ Less) (total.same _ _ q) (above_at key rank x xs j d h n)))
+    lookup_behind x xs q h = lookup_absent key rank k xs 0 (λ j d m n. absurd (omega arith)) (λ j d m n. greater total k _ (sym (total.congr _ _ (key (get_or xs j d)) q) ∙ above_at key rank x xs j d h n))
 
     lookup_without : (xs : List E) → ascending key rank xs ≡ true → lookup key rank k (without key rank k xs) ≡ None
     lookup_without [] h = refl
@@ -53,7 +61,7 @@ module _ {E K : Type 0} (key : E → K) (rank : K → K → Ordering) (k : K) wh
       where
         go : (o : Ordering) → rank (key x) k ≡ o → lookup key rank w (x ∷ without key rank k xs) ≡ lookup key rank w (x ∷ xs) → lookup key rank w (cond (is_eq o) xs (x ∷ without key rank k xs)) ≡ lookup key rank w (x ∷ xs)
         go Less q ih = ih
-        go Equal q ih = sym (lookup_other key rank w x xs (subst (λ y. rank y w ≡ Equal → ⊥) (sym (total.same _ _ q)) n))
+        go Equal q ih = sym (lookup_other key rank w x xs (λ i. n (sym (total.congr _ _ w q) ∙ i)))
         go Greater q ih = ih
 
     pub changed_without : (xs : List E) → ascending key rank xs ≡ true → Changed key rank k None xs (without key rank k xs)

@@ -1,6 +1,6 @@
 pub mod Total
 pub mod Table
 pub mod Edits
-pub mod Moves
-pub mod ByteKeys
 pub mod Orders
+pub mod Rows
+pub mod Tables

@@ -7,9 +7,9 @@ use Rattle.std.proofs.lemmas.Cmp.{nat_cmp_total, nat_list_cmp_total, on_total}
 use Rattle.std.proofs.lemmas.Bool.{false≢true}
 use Rattle.std.specs.Cmp.{IsTotalOrder as Lawful, ranks}
 use Rattle.std.specs.Ordering.{MatchOrdering, is_lt, ordering_reverse, nat_cmp}
+use Rattle.node.specs.ByteKeys.{bytes_of, byte_key_rank, byte_key_ranks, KeyBefore}
 use Rattle.node.specs.Order.{Below}
 use Rattle.node.specs.Ranks.{address_rank, address_ranks, addresses}
-use Rattle.ordered.specs.ByteKeys.{bytes_of, byte_key_rank, byte_key_ranks, KeyBefore}
 use Rattle.ordered.specs.Total.{Total}
 
 unturned : (o : Ordering) → o ≡ ordering_reverse o → o ≡ Equal
@@ -24,6 +24,14 @@ total_by {R = R} lawful L ranks = record {
   itself = λ x. unturned (R x x) (lawful.antisymm x x);
   turned = lawful.antisymm;
   chained = lawful.trans;
+}
+
+-- such an order is lawful
+pub lawful : {K : Type 0} {R : K → K → Ordering} → Total R → Lawful R
+lawful {R = R} total = record {
+  antisymm = total.turned;
+  trans = total.chained;
+  congr = λ x y z e. ap (λ w. R w z) (total.same x y e);
 }
 
 pub addresses_total : Total address_rank

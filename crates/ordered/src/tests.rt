@@ -1,9 +1,9 @@
-use crate::{ByteKey, Entry, Key, find, insert, remove};
+use crate::{ByteKey, Entry, Full, Row, Table, find, insert, remove};
 use std::cmp::Ordering;
 use std::process::Abort;
 use std::test::Fail;
 
-#[derive(Clone, Copy)]
+#[derive(Clone, Copy, Debug, PartialEq, Eq)]
 struct Owner {
     slot: u16,
     name: u8,
@@ -26,16 +26,9 @@ fn owned(slot: u16, name: u8) -> Owner {
 }
 
 fn fill(rt: &impl Abort, table: &mut [Owner], count: &mut usize) {
-    assert!(rt; insert(table, count, owned(3, b'c')).is_ok());
-    assert!(rt; insert(table, count, owned(1, b'a')).is_ok());
-    assert!(rt; insert(table, count, owned(2, b'b')).is_ok());
-}
-
-fn name(o: Option<Owner>) -> u8 {
-    match o {
-        Some(o) => o.name,
-        None => b'-',
-    }
+    assert_eq!(rt; insert(table, count, owned(3, b'c')), Ok(None));
+    assert_eq!(rt; insert(table, count, owned(1, b'a')), Ok(None));
+    assert_eq!(rt; insert(table, count, owned(2, b'b')), Ok(None));
 }
 
 #[test]
@@ -47,8 +40,8 @@ fn keeps_entries_in_order(rt: HostRuntime) -> Result<(), Fail> {
     assert_eq!(rt; table[0].name, b'a');
     assert_eq!(rt; table[1].name, b'b');
     assert_eq!(rt; table[2].name, b'c');
-    assert_eq!(rt; find(&table[0..3], &2).ok().ok_or(())?, 1);
-    assert_eq!(rt; find(&table[0..3], &4).err().ok_or(())?, 3);
+    assert_eq!(rt; find(&table[0..3], &2), Ok(1));
+    assert_eq!(rt; find(&table[0..3], &4), Err(3));
     Ok(())
 }
 
@@ -57,11 +50,9 @@ fn replaces_and_refuses(rt: HostRuntime) -> Result<(), Fail> {
     let mut table = [NONE; 3];
     let mut count = 0;
     fill(&rt, &mut table, &mut count);
-    let replaced = insert(&mut table, &mut count, owned(2, b'B'))
-        .ok()
-        .ok_or(())?;
-    assert_eq!(rt; name(replaced), b'b');
-    assert!(rt; insert(&mut table, &mut count, owned(4, b'd')).is_err());
+    let replaced = insert(&mut table, &mut count, owned(2, b'B'));
+    assert_eq!(rt; replaced, Ok(Some(owned(2, b'b'))));
+    assert_eq!(rt; insert(&mut table, &mut count, owned(4, b'd')), Err(Full));
     assert_eq!(rt; count, 3);
     assert_eq!(rt; table[1].name, b'B');
     assert_eq!(rt; table[2].name, b'c');
@@ -73,9 +64,9 @@ fn removes(rt: HostRuntime) {
     let mut table = [NONE; 3];
     let mut count = 0;
     fill(&rt, &mut table, &mut count);
-    assert_eq!(rt; name(remove(&mut table, &mut count, &4)), b'-');
-    assert_eq!(rt; name(remove(&mut table, &mut count, &1)), b'a');
-    assert_eq!(rt; name(remove(&mut table, &mut count, &3)), b'c');
+    assert_eq!(rt; remove(&mut table, &mut count, &4), None);
+    assert_eq!(rt; remove(&mut table, &mut count, &1), Some(owned(1, b'a')));
+    assert_eq!(rt; remove(&mut table, &mut count, &3), Some(owned(3, b'c')));
     assert_eq!(rt; count, 1);
     assert_eq!(rt; table[0].name, b'b');
 }
@@ -88,8 +79,36 @@ fn orders_bytes_with_a_prefix_first(rt: HostRuntime) -> Result<(), Fail> {
     assert_eq!(rt; most.bytes().len(), 64);
     let one = ByteKey::new(b"k").ok_or(())?;
     let next = ByteKey::new(b"l").ok_or(())?;
-    assert!(rt; one.compare(&most) == Ordering::Less);
-    assert!(rt; most.compare(&next) == Ordering::Less);
-    assert!(rt; one.compare(&one) == Ordering::Equal);
+    assert_eq!(rt; one.cmp(&most), Ordering::Less);
+    assert_eq!(rt; most.cmp(&next), Ordering::Less);
+    assert_eq!(rt; one.cmp(&one), Ordering::Equal);
+    Ok(())
+}
+
+#[test]
+fn a_row_keeps_what_came_in_order(rt: HostRuntime) -> Result<(), Fail> {
+    let mut row: Row<u8, 2> = Row::new(b'-');
+    assert_eq!(rt; row.push(b'b'), Ok(()));
+    let one = row;
+    assert_eq!(rt; row.push(b'a'), Ok(()));
+    assert_eq!(rt; row.push(b'c'), Err(Full));
+    assert_eq!(rt; row.as_slice(), b"ba".as_slice());
+    assert_eq!(rt; one.as_slice(), b"b".as_slice());
+    Ok(())
+}
+
+#[test]
+fn a_table_owns_its_entries(rt: HostRuntime) -> Result<(), Fail> {
+    let mut table: Table<Owner, 2> = Table::new(NONE);
+    let empty = table;
+    assert_eq!(rt; table.insert(owned(3, b'c')), Ok(None));
+    assert_eq!(rt; table.insert(owned(1, b'a')), Ok(None));
+    assert_eq!(rt; table.insert(owned(3, b'C')), Ok(Some(owned(3, b'c'))));
+    assert_eq!(rt; table.insert(owned(2, b'b')), Err(Full));
+    assert_eq!(rt; table.find(&3), Ok(1));
+    assert_eq!(rt; table.find(&2), Err(1));
+    assert_eq!(rt; table.remove(&1), Some(owned(1, b'a')));
+    assert_eq!(rt; table.as_slice(), [owned(3, b'C')].as_slice());
+    assert_eq!(rt; empty.as_slice().len(), 0);
     Ok(())
 }

@@ -7,7 +7,8 @@ ghost use Rattle.node.specs.Readable.{Answer};
 ghost use Rattle.node.specs.Text.{readable};
 
 use super::NodeAddress;
-use crate::host::{is_host, padded};
+use crate::byte_key::ByteKey;
+use crate::host::is_host;
 use crate::split::{Split, split_node_address};
 
 impl NodeAddress {
@@ -20,11 +21,8 @@ impl NodeAddress {
         if !is_host(host) {
             return None;
         }
-        Some(NodeAddress {
-            host: padded(host),
-            len: host.len() as u8,
-            port,
-        })
+        let host = ByteKey::new(host)?;
+        Some(NodeAddress { host, port })
     }
 
     // An address for places that hold none: `?` is how a server names a node that it does not know.
@@ -32,8 +30,7 @@ impl NodeAddress {
         ensures { Some result ≡ address (codes "?") 0 }
     {
         NodeAddress {
-            host: padded(b"?"),
-            len: 1,
+            host: ByteKey::new(b"?").unwrap(),
             port: 0,
         }
     }
@@ -44,13 +41,13 @@ impl NodeAddress {
         ensures answer { Answer text.now (option_map name_of result) }
     {
         let Split { host, port } = split_node_address(text)?;
-        NodeAddress::new(&text[0..host], port)
+        NodeAddress::new(&text[..host], port)
     }
 
     pub fn host(&self) -> &[u8]
         ensures { result.now ≡ host_of self.now }
     {
-        &self.host[0..self.len as usize]
+        self.host.bytes()
     }
 
     pub fn port(&self) -> u16

@@ -1,5 +1,3 @@
-pub mod Named
-pub mod Spans
 pub mod Nodes
-pub mod Texts
 pub mod Ends
+pub mod Spans

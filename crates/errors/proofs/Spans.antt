@@ -1,36 +1,33 @@
--- How far a run goes, one byte at a time, and the places of words.
-use Rattle.std.proofs.Common.{◌≡◌, ℕ, suc, ◌+◌, ◌-◌, ◌<◌, ◌≤◌, true, false, cond, List, length, get_or, take, drop, sym, ap, ◌∙◌, arith}
-use Rattle.std.proofs.lemmas.List.{at_drop_more, at_drop_all, drop-drop, take_rest}
-use Rattle.resp.specs.Told.{part}
-use Rattle.errors.specs.Words.{belongs, span, unpadded, first_word, behind_word}
-use Rattle.errors.specs.declared.words.Run.{Run}
-use Rattle.errors.specs.declared.words.Run.TheVariants.{White, Word}
+-- Where a text's detail and its words lie.
+use Rattle.std.proofs.Common.{◌≡◌, ℕ, ◌+◌, ◌-◌, ◌≤◌, List, length, take, drop, Some, None, Option, sym, refl, ap, ◌∙◌, subst, arith, length-drop}
+use Rattle.std.proofs.lemmas.List.{drop-drop, take_rest}
+use Rattle.std.proofs.lemmas.Str.Ascii.{trim_ascii_start_is}
+use Rattle.std.specs.Option.{option_map}
+use Rattle.std.specs.Str.{IsTrimAsciiStart}
+use Rattle.resp.specs.Told.{part, text_at}
+use Rattle.errors.specs.Words.{white, until, unpadded, first_word, behind_word}
 
-module _ (run : Run) (bs : List ℕ) (n : ℕ) (h : n < length bs) where
-  here : span run (drop n bs) ≡ cond (belongs run (get_or bs n 0)) (suc (span run (drop (n + 1) bs))) 0
-  here = at_drop_more (span run) bs n 0 h
-
-  pub span_stops : false ≡ belongs run (get_or bs n 0) → span run (drop n bs) ≡ 0
-  span_stops e = here ∙ ap (λ b. cond b (suc (span run (drop (n + 1) bs))) 0) (sym e)
-
-  pub span_goes : true ≡ belongs run (get_or bs n 0) → span run (drop n bs) ≡ suc (span run (drop (n + 1) bs))
-  span_goes e = here ∙ ap (λ b. cond b (suc (span run (drop (n + 1) bs))) 0) (sym e)
-
-pub span_ends : (run : Run) (bs : List ℕ) (n : ℕ) → length bs ≤ n → span run (drop n bs) ≡ 0
-span_ends run bs n h = at_drop_all (span run) bs n h
+pub detail_told : (t : List ℕ) (o : Option ℕ) → text_at t (option_map (λ i. record { start = i + 1; end = length t }) o) ≡ option_map (λ i. drop (i + 1) t) o
+detail_told t None = refl
+detail_told t (Some i) = ap Some (take_rest t (i + 1))
 
 -- a word by the places where it begins and ends
-module _ (bs : List ℕ) (at w n : ℕ) (white : w ≡ span White (take (length bs - at) (drop at bs))) (long : n ≡ span Word (take (length bs - (at + w)) (drop (at + w) bs))) where
-  begins : drop (at + w) bs ≡ unpadded (drop at bs)
-  begins = sym (drop-drop w at bs) ∙ ap (λ k. drop k (drop at bs)) (white ∙ ap (span White) (take_rest bs at))
+module _ (bs : List ℕ) (at n : ℕ) (rest : List ℕ) (h : at ≤ length bs) (trimmed : IsTrimAsciiStart (take (length bs - at) (drop at bs)) rest) (long : n ≡ until white rest) where
+  from : IsTrimAsciiStart (drop at bs) rest
+  from = subst (λ l. IsTrimAsciiStart l rest) (take_rest bs at) trimmed
 
-  size : n ≡ span Word (unpadded (drop at bs))
-  size = long ∙ ap (span Word) (take_rest bs (at + w) ∙ begins)
+  is : rest ≡ unpadded (drop at bs)
+  is = trim_ascii_start_is (drop at bs) rest from
 
-  pub word_text : part bs (record { start = at + w; end = at + w + n }) ≡ first_word (drop at bs)
+  begins : drop (length bs - length rest) bs ≡ rest
+  begins =
+      let start : length bs - length rest ≡ at + from.0 = omega (arith, from.2, length-drop at bs) in
+      ap (λ k. drop k bs) start ∙ sym (drop-drop from.0 at bs) ∙ sym from.1
+
+  pub word_text : part bs (record { start = length bs - length rest; end = length bs - length rest + n }) ≡ first_word (drop at bs)
   word_text =
-      let wide : at + w + n - (at + w) ≡ n = omega arith in
-      ap (λ k. take k (drop (at + w) bs)) wide ∙ ap (take n) begins ∙ ap (λ k. take k (unpadded (drop at bs))) size
+      let wide : length bs - length rest + n - (length bs - length rest) ≡ n = omega arith in
+      ap (λ k. take k (drop (length bs - length rest) bs)) (wide ∙ long) ∙ ap (take (until white rest)) begins ∙ ap (λ r. take (until white r) r) is
 
-  pub word_rest : drop (at + w + n) bs ≡ behind_word (drop at bs)
-  word_rest = sym (drop-drop n (at + w) bs) ∙ ap (drop n) begins ∙ ap (λ k. drop k (unpadded (drop at bs))) size
+  pub word_rest : drop (length bs - length rest + n) bs ≡ behind_word (drop at bs)
+  word_rest = sym (drop-drop n (length bs - length rest) bs) ∙ ap (drop n) begins ∙ ap (λ k. drop k rest) long ∙ ap (λ r. drop (until white r) r) is

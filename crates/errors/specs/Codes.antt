@@ -1,5 +1,6 @@
 -- The codes of server errors that the client knows.
-use Rattle.std.specs.Prelude.{ℕ, cond, List, [], ◌∷◌, Some, None, codes, Option}
+use Rattle.std.specs.Prelude.{ℕ, List, [], ◌∷◌, codes, Option}
+use Rattle.std.specs.List.{find}
 use Rattle.std.specs.Str.{bytes_eq}
 use Rattle.errors.specs.declared.server_error.ServerErrorKind.{ServerErrorKind}
 use Rattle.errors.specs.declared.server_error.ServerErrorKind.TheVariants.{ResponseError, ExecAbort, BusyLoading, NoScript, Moved, Ask, TryAgain, ClusterDown, CrossSlot, MasterDown, ReadOnly, NotBusy, NoSub, NoPerm}
@@ -25,10 +26,6 @@ kinds =
     ResponseError ∷ ExecAbort ∷ BusyLoading ∷ NoScript ∷ Moved ∷ Ask ∷ TryAgain ∷ ClusterDown ∷ CrossSlot ∷ MasterDown ∷ ReadOnly
     ∷ NotBusy ∷ NoSub ∷ NoPerm ∷ []
 
--- the kind that has this code, of those listed
-abbrev pub among : List ServerErrorKind → List ℕ → Option ServerErrorKind
-among [] text = None
-among (k ∷ ks) text = cond (bytes_eq (code k) text) (Some k) (among ks text)
-
+-- the kind that has this code
 unfoldable pub kind : List ℕ → Option ServerErrorKind
-kind text = among kinds text
+kind text = find (λ k. bytes_eq (code k) text) kinds

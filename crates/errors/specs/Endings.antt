@@ -1,7 +1,8 @@
 -- How an answer ends: good, by the first server error in it, unreadable, or too long.
-use Rattle.std.specs.Prelude.{ℕ, cond, List, length, Some, None, Option, ◌==◌, nat_lt}
-use Rattle.resp.specs.Read.{Read}
-use Rattle.resp.specs.Reading.{value}
+use Rattle.std.specs.Prelude.{ℕ, cond, List, length, Some, None, Option, nat_lt}
+use Rattle.std.specs.Option.{option_map, option_map_or}
+pub use Rattle.resp.specs.Reading.{alone}
+use Rattle.resp.specs.Reading.{whole_value}
 use Rattle.resp.specs.Value.{Value, first_error}
 use Rattle.errors.specs.Codes.{kind}
 use Rattle.errors.specs.Words.{code_text}
@@ -14,30 +15,22 @@ use Rattle.errors.specs.declared.redis_error.Refusal.TheVariants as refusals
 use Rattle.errors.specs.declared.redis_error.RetryMethod.{RetryMethod}
 use Rattle.errors.specs.declared.server_error.ServerErrorKind.{ServerErrorKind}
 
--- one value, with nothing behind it
-abbrev pub alone : Option (Read Value) → Option Value
-alone None = None
-alone (Some x) = cond (length x.rest == 0) (Some x.value) None
-
 -- with arrays nested at most 8 deep
 abbrev pub answered : List ℕ → Option Value
-answered bs = alone (value 8 bs)
+answered bs = whole_value 8 bs
 
 abbrev pub kind_ending : Option ServerErrorKind → Ending
-kind_ending None = Extension
-kind_ending (Some k) = Server k
+kind_ending o = option_map_or Server o Extension
 
 abbrev pub error_ending : Option (List ℕ) → Ending
 error_ending None = Good
 error_ending (Some text) = kind_ending (kind (code_text text))
 
 abbrev pub value_ending : Option Value → Ending
-value_ending None = Parse
-value_ending (Some v) = error_ending (first_error v)
+value_ending o = option_map_or (λ v. error_ending (first_error v)) o Parse
 
 abbrev pub value_error : Option Value → Option (List ℕ)
-value_error None = None
-value_error (Some v) = first_error v
+value_error o = option_map_or first_error o None
 
 -- an answer for which so many bytes of memory are lent
 abbrev pub ending : ℕ → List ℕ → Ending
@@ -59,5 +52,4 @@ refusal Denied = Some (refusals.Network faults.Denied)
 refusal Other = Some (refusals.Network faults.Other)
 
 abbrev pub retry : Option Refusal → Option RetryMethod
-retry None = None
-retry (Some r) = Some (method r)
+retry o = option_map method o

@@ -67,10 +67,6 @@ abbrev pub told : List ℕ → Option Target → Option Named
 told detail None = None
 told detail (Some t) = Some (record { host = part detail t.host; port = t.port })
 
-abbrev pub Fits : ℕ → Option Target → Type 0
-Fits n None = Unit {0}
-Fits n (Some t) = Inside n t.host
-
 abbrev pub named : List ℕ → Target → Named
 named text t = record { host = part text t.host; port = t.port }
 

@@ -6,6 +6,7 @@ use crate::redis_error::RetryMethod;
 use crate::server_error::ServerErrorKind;
 
 impl ServerErrorKind {
+    // Names by hand, public as they were: the derived printing has no contract, and `Display` writes the same.
     // The word by which a report names the kind.
     pub fn name(self) -> &'static str
         ensures { result.now ≡ kind_name self }

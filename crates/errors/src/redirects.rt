@@ -2,7 +2,7 @@ ghost use Rattle.std.specs.Prelude.{◌≡◌, length, is_some, IfSome};
 ghost use Rattle.node.specs.Address.{name_of};
 ghost use Rattle.node.specs.Host.{host_form};
 ghost use Rattle.resp.specs.Told.{part, Inside};
-ghost use Rattle.errors.specs.Redirection.{small as small_of, slot as slot_of, node as node_of, redirect, Fits, told, named, Sends, sent};
+ghost use Rattle.errors.specs.Redirection.{slot as slot_of, node as node_of, redirect, told, named, Sends, sent};
 ghost use Rattle.errors.specs.Examples.{RedirectExamples};
 
 use crate::server_error::{ServerError, ServerErrorKind};
@@ -11,10 +11,9 @@ use node::{NodeAddress, split_node_address};
 use resp::number::natural;
 use resp::place::Place;
 
-const LARGEST: u64 = 65535;
-
 // Another node's address in the text of an error: the place of its host, and its port.
-#[derive(Clone, Copy)]
+// That the place lies in the text is a clause, since the fields are public and hold no text to lie in.
+#[derive(Clone, Copy, Debug, PartialEq, Eq)]
 pub struct Target {
     pub host: Place,
     pub port: u16,
@@ -30,41 +29,29 @@ impl Target {
     }
 }
 
-// A number up to 65535.
-fn small(n: Option<u64>) -> Option<u64>
-    ensures { result ≡ small_of n }
-{
-    match n {
-        Some(n) if n <= LARGEST => Some(n),
-        _ => None,
-    }
-}
-
 // A slot's number, of which only the form matters: one plus sign is allowed.
-fn slot(text: &[u8]) -> Option<u64>
+fn slot(text: &[u8]) -> Option<u16>
     ensures { result ≡ slot_of text.now }
 {
-    match text {
-        [b'+', digits @ ..] => small(natural(digits)),
-        _ => small(natural(text)),
-    }
+    let digits = text.strip_prefix(b"+").unwrap_or(text);
+    u16::try_from(natural(digits)?).ok()
 }
 
 // The address that the second word of an error's detail names, behind a slot's number.
 pub fn redirect_node(detail: &[u8]) -> Option<Target>
-    ensures within { Fits (length detail.now) result }
+    ensures within { IfSome result (λ t. Inside (length detail.now) t.host) }
     ensures value { told detail.now result ≡ node_of detail.now }
 {
     let first = word(detail, 0);
-    let _slot = slot(first.text(detail))?;
+    slot(first.text(detail))?;
     let second = word(detail, first.end);
     let split = split_node_address(second.text(detail))?;
     let host = Place {
-        start: second.start,
-        end: second.start + split.host,
+        start: 0,
+        end: split.host,
     };
     Some(Target {
-        host,
+        host: host.moved(second.start),
         port: split.port,
     })
 }
@@ -72,22 +59,18 @@ pub fn redirect_node(detail: &[u8]) -> Option<Target>
 // The address that the detail at the place names, with its own place in the whole text.
 fn target_in(text: &[u8], detail: Place) -> Option<Target>
     requires { Inside (length text.now) detail }
-    ensures within { Fits (length text.now) result }
+    ensures within { IfSome result (λ t. Inside (length text.now) t.host) }
     ensures value { told text.now result ≡ node_of (part text.now detail) }
 {
-    let node = redirect_node(detail.text(text))?;
-    let host = Place {
-        start: detail.start + node.host.start,
-        end: detail.start + node.host.end,
-    };
+    let target = redirect_node(detail.text(text))?;
     Some(Target {
-        host,
-        port: node.port,
+        host: target.host.moved(detail.start),
+        ..target
     })
 }
 
 // Where an error sends its command: for good, or this once, behind ASKING.
-#[derive(Clone, Copy)]
+#[derive(Clone, Copy, Debug, PartialEq, Eq)]
 pub enum Redirect {
     Moved(Target),
     Ask(Target),
@@ -100,10 +83,8 @@ impl Redirect {
         ensures value { sent text.now result ≡ redirect text.now }
     {
         let error = ServerError::read(text);
-        let kind = error.kind?;
-        let detail = error.detail?;
-        let target = target_in(text, detail)?;
-        match kind {
+        let target = target_in(text, error.detail?)?;
+        match error.kind? {
             ServerErrorKind::Moved => Some(Redirect::Moved(target)),
             ServerErrorKind::Ask => Some(Redirect::Ask(target)),
             _ => None,
@@ -112,6 +93,7 @@ impl Redirect {
 }
 
 // A theorem, and nothing to run: the worked examples of redirects.
+#[tactic(auto, unfolding(crate::specs::Codes::kind))]
 pub fn redirect_examples()
     ensures { RedirectExamples }
 {}

@@ -1,11 +1,14 @@
-ghost use Rattle.std.specs.Prelude.{◌≡◌};
+ghost use Rattle.std.specs.Prelude.{◌≡◌, Some};
+ghost use Rattle.errors.specs.Names.{method_name};
 ghost use Rattle.errors.specs.Refusals.{number as number_of, kind as kind_of, dropped, denied};
 ghost use Rattle.errors.specs.Retries.{method};
+ghost use Rattle.errors.specs.declared.redis_error.Refusal.TheVariants.{Network, Server};
 
 use crate::server_error::ServerErrorKind;
+use std::fmt;
 
 // The kinds of errors that a user of the client meets.
-#[derive(Clone, Copy)]
+#[derive(Clone, Copy, Debug, PartialEq, Eq)]
 pub enum ErrorKind {
     // An answer is not one value of the protocol.
     Parse,
@@ -24,7 +27,7 @@ pub enum ErrorKind {
 }
 
 // What a retry does first.
-#[derive(Clone, Copy)]
+#[derive(Clone, Copy, Debug, PartialEq, Eq)]
 pub enum RetryMethod {
     // Replace the link, which is no longer of use.
     Reconnect,
@@ -44,8 +47,16 @@ pub enum RetryMethod {
     RefreshSlotsAndRetry,
 }
 
+impl fmt::Display for RetryMethod {
+    ghost output = { λ x. Some (method_name x) };
+
+    fn fmt<W: fmt::Write>(&self, f: &mut fmt::Formatter<W>) -> fmt::Result {
+        f.write_str(self.name())
+    }
+}
+
 // How the network fails.
-#[derive(Clone, Copy)]
+#[derive(Clone, Copy, Debug, PartialEq, Eq)]
 pub enum NetworkFault {
     // The connection was reset, or never came about.
     Dropped,
@@ -58,7 +69,7 @@ pub enum NetworkFault {
 }
 
 // Why a call is refused: the questions that were answered with no, in the order in which they are asked.
-#[derive(Clone, Copy)]
+#[derive(Clone, Copy, Debug, PartialEq, Eq)]
 pub enum Refusal {
     // 1: not 1 to 8 readable seeds.
     Seeds,
@@ -110,11 +121,28 @@ pub enum Refusal {
     Output,
 }
 
+impl From<NetworkFault> for Refusal {
+    ghost from_gives = { λ fault r. r ≡ Network fault };
+
+    fn from(fault: NetworkFault) -> Refusal {
+        Refusal::Network(fault)
+    }
+}
+
+impl From<ServerErrorKind> for Refusal {
+    ghost from_gives = { λ server r. r ≡ Server server };
+
+    fn from(server: ServerErrorKind) -> Refusal {
+        Refusal::Server(server)
+    }
+}
+
 impl Refusal {
     // The number by which the refusal is reported.
     pub fn number(self) -> u8
         ensures { result ≡ number_of self }
     {
+        // One exhaustive match, so that each new refusal has to be given its number.
         match self {
             Refusal::Seeds => 1,
             Refusal::Settings => 2,
@@ -143,6 +171,7 @@ impl Refusal {
     pub fn kind(self) -> ErrorKind
         ensures { result ≡ kind_of self }
     {
+        // One exhaustive match, so that each new refusal has to be given its kind.
         match self {
             Refusal::Network(NetworkFault::TooLong) => ErrorKind::Client,
             Refusal::Network(_) | Refusal::NoSeed | Refusal::NoneForOne => ErrorKind::Io,
@@ -189,6 +218,7 @@ impl Refusal {
     pub fn retry_method(self) -> RetryMethod
         ensures { result ≡ method self }
     {
+        // One exhaustive match, so that each new kind has to be given its method.
         match self.kind() {
             ErrorKind::Server(ServerErrorKind::Moved) => RetryMethod::MovedRedirect,
             ErrorKind::Server(ServerErrorKind::Ask) => RetryMethod::AskRedirect,

@@ -1,14 +1,15 @@
-ghost use Rattle.std.specs.Prelude.{◌≡◌, length};
-ghost use Rattle.std.specs.Str.{bytes_eq};
+ghost use Rattle.std.specs.Prelude.{◌≡◌, length, Some};
 ghost use Rattle.resp.specs.Told.{part, text_at, Errs};
 ghost use Rattle.errors.specs.Codes.{code as code_of, kind as kind_of};
+ghost use Rattle.errors.specs.Names.{kind_name};
 ghost use Rattle.errors.specs.Words.{code_text, detail_text};
 
-use crate::words::{Run, span};
+use crate::words::blank;
 use resp::place::Place;
+use std::fmt;
 
 // The kinds of errors that a server answers with, each by its code.
-#[derive(Clone, Copy)]
+#[derive(Clone, Copy, Debug, PartialEq, Eq)]
 pub enum ServerErrorKind {
     // The command failed, or a general error.
     ResponseError,
@@ -79,27 +80,25 @@ impl ServerErrorKind {
         }
     }
 
-    fn has_code(self, text: &[u8]) -> bool
-        ensures { result ≡ bytes_eq (code_of self) text.now }
-    {
-        self.code() == text
-    }
-
     // The kind that has this code.
+    #[tactic(auto, unfolding(crate::specs::Codes::kind))]
     pub fn from_code(code: &[u8]) -> Option<ServerErrorKind>
         ensures { result ≡ kind_of code.now }
     {
-        for kind in KINDS {
-            if kind.has_code(code) {
-                return Some(kind);
-            }
-        }
-        None
+        KINDS.iter().copied().find(|kind| kind.code() == code)
+    }
+}
+
+impl fmt::Display for ServerErrorKind {
+    ghost output = { λ x. Some (kind_name x) };
+
+    fn fmt<W: fmt::Write>(&self, f: &mut fmt::Formatter<W>) -> fmt::Result {
+        f.write_str(self.name())
     }
 }
 
 // A server error by its text: its kind, if the code is known, and the places of its code and its detail.
-#[derive(Clone, Copy)]
+#[derive(Clone, Copy, Debug, PartialEq, Eq)]
 pub struct ServerError {
     pub kind: Option<ServerErrorKind>,
     pub code: Place,
@@ -113,24 +112,19 @@ impl ServerError {
         ensures detail { text_at text.now result.detail ≡ detail_text text.now }
         ensures within { Errs (length text.now) result.detail }
     {
-        let end = span(text, Run::Code);
-        let code = Place { start: 0, end };
-        let kind = ServerErrorKind::from_code(code.text(text));
-        let len = text.len();
-        if end == len {
-            return ServerError {
-                kind,
-                code,
-                detail: None,
-            };
-        }
+        let blank = blank(text);
+        let code = Place {
+            start: 0,
+            end: blank.unwrap_or(text.len()),
+        };
+        let detail = blank.map(|at| Place {
+            start: at + 1,
+            end: text.len(),
+        });
         ServerError {
-            kind,
+            kind: ServerErrorKind::from_code(code.text(text)),
             code,
-            detail: Some(Place {
-                start: end + 1,
-                end: len,
-            }),
+            detail,
         }
     }
 }

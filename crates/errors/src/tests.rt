@@ -26,11 +26,11 @@ fn knows_each_code(rt: HostRuntime) -> Result<(), Fail> {
     for (code, name, method) in CODES {
         let kind = ServerErrorKind::from_code(code).ok_or(name)?;
         assert_eq!(rt; kind.name(), name);
-        assert!(rt; kind.code() == code, "{}", kind.name());
+        assert_eq!(rt; kind.code(), code);
         assert_eq!(rt; Refusal::Server(kind).retry_method().name(), method);
     }
-    assert!(rt; ServerErrorKind::from_code(b"moved").is_none());
-    assert!(rt; ServerErrorKind::from_code(b"").is_none());
+    assert_eq!(rt; ServerErrorKind::from_code(b"moved"), None);
+    assert_eq!(rt; ServerErrorKind::from_code(b""), None);
     Ok(())
 }
 
@@ -50,7 +50,7 @@ fn knows_each_ending(rt: HostRuntime) -> Result<(), Fail> {
         assert_eq!(rt; ending.name(), name);
         assert_eq!(rt; ending.retry_method().ok_or(name)?.name(), method);
     }
-    assert!(rt; Ending::Good.retry_method().is_none());
+    assert_eq!(rt; Ending::Good.retry_method(), None);
     assert_eq!(rt;
         Refusal::NoLink.retry_method().name(),
         "ReconnectFromInitialConnections"
@@ -72,43 +72,37 @@ fn ends_by_the_first_error(rt: HostRuntime) {
     assert_eq!(rt; Answer::read(b"+OK\r\n", 4).ending.name(), "TooLong");
     let inside = Answer::read(b"*3\r\n:1\r\n-TRYAGAIN x\r\n-ERR y\r\n", 64);
     assert_eq!(rt; inside.ending.name(), "TryAgain");
-    assert!(rt; matches!(inside.error, Some(Place { start: 9, end: 19 })));
+    assert_eq!(rt; inside.error, Some(Place { start: 9, end: 19 }));
 }
 
 #[test]
 fn redirects_to_a_readable_address(rt: HostRuntime) -> Result<(), Fail> {
     let text = b"MOVED 3999 127.0.0.1:6381";
-    let Some(Redirect::Moved(moved)) = Redirect::read(text) else {
-        return Err(Fail::new("a redirect for good"));
+    let moved = Target {
+        host: Place { start: 11, end: 20 },
+        port: 6381,
     };
-    assert!(rt; moved.host.text(text) == b"127.0.0.1".as_slice());
-    let Some(address) = moved.address(text) else {
-        return Err(Fail::new("an address"));
-    };
-    let Some(read) = NodeAddress::parse(b"127.0.0.1:6381") else {
-        return Err(Fail::new("a readable text"));
-    };
-    assert!(rt; address == read);
+    assert_eq!(rt; Redirect::read(text), Some(Redirect::Moved(moved)));
+    assert_eq!(rt; moved.host.text(text), b"127.0.0.1".as_slice());
+    let address = moved.address(text).ok_or("an address")?;
+    let read = NodeAddress::parse(b"127.0.0.1:6381").ok_or("a readable text")?;
+    assert_eq!(rt; address, read);
     let ask = Redirect::read(b"ASK +7 h:1");
-    assert!(rt;
-        matches!(
-            ask,
-            Some(Redirect::Ask(Target {
-                host: Place { start: 7, end: 8 },
-                port: 1
-            }))
-        )
+    assert_eq!(rt;
+        ask,
+        Some(Redirect::Ask(Target {
+            host: Place { start: 7, end: 8 },
+            port: 1
+        }))
     );
     assert!(rt; Redirect::read(b"ASK 007 h:1").is_some());
     let between = redirect_node(b"\t7\n\x0ch:1\r2");
-    assert!(rt;
-        matches!(
-            between,
-            Some(Target {
-                host: Place { start: 4, end: 5 },
-                port: 1
-            })
-        )
+    assert_eq!(rt;
+        between,
+        Some(Target {
+            host: Place { start: 4, end: 5 },
+            port: 1
+        })
     );
     Ok(())
 }
@@ -131,7 +125,7 @@ const NO_REDIRECTS: [&[u8]; 13] = [
 
 #[test]
 fn redirects_nowhere_else(rt: HostRuntime) {
-    for (i, text) in NO_REDIRECTS.iter().enumerate() {
-        assert!(rt; Redirect::read(text).is_none(), "{}", i);
+    for text in NO_REDIRECTS {
+        assert_eq!(rt; Redirect::read(text), None);
     }
 }

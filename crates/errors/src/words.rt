@@ -1,46 +1,22 @@
-ghost use Rattle.std.specs.Prelude.{◌≡◌, ◌+◌, ◌≤◌, length, drop};
+ghost use Rattle.std.specs.Prelude.{◌≡◌, ◌≤◌, ◌==◌, length, drop, position};
+ghost use Rattle.std.specs.Char.{is_ascii_whitespace};
 ghost use Rattle.resp.specs.Told.{part};
-ghost use Rattle.errors.specs.Words.{white, belongs, span as span_of, first_word, behind_word};
+ghost use Rattle.errors.specs.Words.{first_word, behind_word};
 
 use resp::place::Place;
 
-// The bytes that a run goes over: all but a blank, white space, or all but white space.
-#[derive(Clone, Copy)]
-pub enum Run {
-    Code,
-    White,
-    Word,
-}
-
-fn is_white(b: u8) -> bool
-    ensures { result ≡ white b }
+// Where the first blank stands.
+pub(crate) fn blank(bytes: &[u8]) -> Option<usize>
+    ensures { result ≡ position (λ b. b == 32) bytes.now }
 {
-    b == b' ' || b == b'\t' || b == b'\n' || b == 12 || b == b'\r'
+    bytes.iter().position(|b| *b == b' ')
 }
 
-impl Run {
-    fn has(self, b: u8) -> bool
-        ensures { result ≡ belongs self b }
-    {
-        match self {
-            Run::Code => b != b' ',
-            Run::White => is_white(b),
-            Run::Word => !is_white(b),
-        }
-    }
-}
-
-// How many bytes at the front belong to the run.
-pub(crate) fn span(bytes: &[u8], run: Run) -> usize
-    ensures within { result ≤ length bytes.now }
-    ensures value { result ≡ span_of run bytes.now }
+// Where the first white space stands.
+fn white(bytes: &[u8]) -> Option<usize>
+    ensures { result ≡ position is_ascii_whitespace bytes.now }
 {
-    for (i, b) in bytes.iter().enumerate() {
-        if !run.has(*b) {
-            return i;
-        }
-    }
-    bytes.len()
+    bytes.iter().position(|b| b.is_ascii_whitespace())
 }
 
 // The first word from `at` on; it is empty where none is left.
@@ -51,7 +27,8 @@ pub(crate) fn word(bytes: &[u8], at: usize) -> Place
     ensures text { part bytes.now result ≡ first_word (drop at bytes.now) }
     ensures rest { drop result.end bytes.now ≡ behind_word (drop at bytes.now) }
 {
-    let start = at + span(&bytes[at..], Run::White);
-    let end = start + span(&bytes[start..], Run::Word);
+    let rest = bytes[at..].trim_ascii_start();
+    let start = bytes.len() - rest.len();
+    let end = start + white(rest).unwrap_or(rest.len());
     Place { start, end }
 }

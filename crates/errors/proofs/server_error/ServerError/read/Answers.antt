@@ -1,28 +1,10 @@
-use Rattle.std.proofs.Common.{ap, ◌∙◌, arith}
-use Rattle.errors.specs.Codes.{kind}
-use Rattle.errors.proofs.Texts.{code_part, detail_none, detail_some}
+use Rattle.std.proofs.Common.{◌≡◌, ◌+◌, rules, length}
+use Rattle.std.specs.Option.{option_map}
+use Rattle.errors.proofs.Spans.{detail_told}
 use Rattle.errors.proofs.server_error.ServerError.read.Goals as goal
 
-pub returns-then-end-len : goal.returns-then-end-len
-returns-then-end-len c =
+pub returns-clause-detail : goal.returns-clause-detail
+returns-clause-detail c =
     let t = c.args.text.now in
-    let n = c.span-end.result in
-    let is = c.span-end.ensures.value in
-    record {
-      kind = c.from_code-kind.ensures ∙ ap kind (c.text.ensures ∙ code_part t n is);
-      code = code_part t n is;
-      detail = detail_none t n is c.if-end-len.true;
-      within = tt;
-    }
-
-pub returns : goal.returns
-returns c =
-    let t = c.args.text.now in
-    let n = c.span-end.result in
-    let is = c.span-end.ensures.value in
-    record {
-      kind = c.from_code-kind.ensures ∙ ap kind (c.text.ensures ∙ code_part t n is);
-      code = code_part t n is;
-      detail = detail_some t n is (omega (arith, c.span-end.ensures.within));
-      within = omega (arith, c.span-end.ensures.within);
-    }
+    let mapped : c.map-detail.result ≡ option_map (λ i. record { start = i + 1; end = length t }) c.blank-blank.result = search rules in
+    rw (mapped, c.blank-blank.ensures) (detail_told t _)

@@ -20,8 +20,6 @@ pub fn resp_value_len(bytes: &[u8], depth: u32) -> usize
     ensures value { result ≡ length_read depth bytes.now }
     ensures absent { result ≡ 0 → value depth bytes.now ≡ None }
 {
-    match value::read(bytes, depth) {
-        Some(walk) => walk.len,
-        None => 0,
-    }
+    // 0 in place of None: probe_c exports this to C.
+    value::read(bytes, depth).map_or(0, |walk| walk.len)
 }

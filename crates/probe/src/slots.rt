@@ -9,52 +9,39 @@ use slot_map::{SlotMap, parse_slots};
 pub fn slots_read(answer: &[u8]) -> u64
     ensures { result ≡ size (answer_slots (codes "-") answer.now) }
 {
-    match parse_slots(answer, b"-") {
-        Ok(map) => map.ranges().len() as u64,
-        Err(_) => u64::MAX,
-    }
+    // A number in place of a Result: probe_c exports this to C.
+    parse_slots(answer, b"-").map_or(u64::MAX, |map| map.ranges().len() as u64)
 }
 
 // The start of the range that covers the slot, and its primary's port.
 fn worth(map: &SlotMap, slot: u16) -> u64
     ensures { result ≡ worth_of slot (table_of map.now) }
 {
-    match map.get(slot) {
-        Some(range) => u64::from(range.start()) + u64::from(range.primary().port()),
-        None => 0,
-    }
+    map.get(slot).map_or(0, |range| {
+        u64::from(range.start()) + u64::from(range.primary().port())
+    })
 }
 
 // The sum with what each of the slots is worth; a slot is two bytes, the lower first.
 fn sum(map: &SlotMap, start: u64, slots: &[u8]) -> u64
     ensures { result ≡ summed (table_of map.now) start slots.now }
 {
-    let mut sum = start;
-    let mut at = 0;
-    while slots.len() - at >= 2 {
-        let slot = u16::from(slots[at]) + 256 * u16::from(slots[at + 1]);
-        sum = sum.wrapping_add(worth(map, slot));
-        at += 2;
-    }
-    sum
+    let (slots, _) = slots.as_chunks();
+    slots.iter().fold(start, |sum, slot| {
+        sum.wrapping_add(worth(map, u16::from_le_bytes(*slot)))
+    })
 }
 
 fn sum_rounds(map: &SlotMap, slots: &[u8], rounds: u64) -> u64
     ensures { result ≡ repeated (table_of map.now) slots.now rounds 0 }
 {
-    let mut all = 0;
-    for _i in 0..rounds {
-        all = sum(map, all, slots);
-    }
-    all
+    (0..rounds).fold(0, |all, _| sum(map, all, slots))
 }
 
 // What all the slots are worth in the table of a slot answer, so many times over; 0 where it is refused.
 pub fn slots_found(answer: &[u8], slots: &[u8], rounds: u64) -> u64
     ensures { result ≡ found_in slots.now rounds (answer_slots (codes "-") answer.now) }
 {
-    match parse_slots(answer, b"-") {
-        Ok(map) => sum_rounds(&map, slots, rounds),
-        Err(_) => 0,
-    }
+    // 0 in place of a refusal: probe_c exports this to C.
+    parse_slots(answer, b"-").map_or(0, |map| sum_rounds(&map, slots, rounds))
 }

@@ -1,16 +1,16 @@
 -- An answer that is one value, and nothing behind it.
-use Rattle.std.proofs.Common.{◌≡◌, ℕ, ◌<◌, ◌≤◌, true, false, cond, leb, List, length, Some, None, Ok, Err, Option, Result, sym, refl, ap, ◌∙◌, arith, length-drop}
-use Rattle.std.proofs.lemmas.Bool.{ne_eqb, eq-eqb, and_from, and_left, and_right, cond-true, cond-false}
-use Rattle.errors.specs.Endings.{alone, answered}
+use Rattle.std.proofs.Common.{◌≡◌, ℕ, Bool, true, false, cond, eqb, leb, List, length, Some, None, Ok, Err, Option, Result, sym, refl, ap, ◌∙◌, arith}
+use Rattle.std.proofs.lemmas.Option.{none-some}
+use Rattle.std.specs.Option.{ok_or, option_map}
+use Rattle.std.proofs.lemmas.Bool.{and_from, and_left, and_right, cond-true, cond-false}
+use Rattle.errors.specs.Endings.{answered}
 use Rattle.errors.specs.declared.redis_error.Refusal.{Refusal}
 use Rattle.errors.specs.declared.redis_error.Refusal.TheVariants.{SlotTable, Unreadable}
-use Rattle.resp.proofs.Shared.{same_rest}
 use Rattle.resp.specs.Read.{Read}
-use Rattle.resp.specs.Reading.{value}
-use Rattle.resp.specs.Told.{seen, told_walk}
-use Rattle.resp.specs.Value.{Value}
+use Rattle.resp.specs.Reading.{value, alone}
+use Rattle.resp.specs.Told.{text_at, told_whole}
+use Rattle.resp.specs.Value.{Value, first_error}
 use Rattle.resp.specs.declared.place.Walk.{Walk}
-use Rattle.slot_map.proofs.Elements.{differ}
 use Rattle.slot_map.specs.Front.{Begins}
 use Rattle.slot_map.specs.Maps.{told, Limited}
 use Rattle.slot_map.specs.Range.{Range}
@@ -19,40 +19,40 @@ use Rattle.slot_map.specs.Tables.{ranges_of}
 use Rattle.slot_map.specs.declared.slot_map.SlotMap.{SlotMap}
 use Rattle.slot_map.specs.declared.slot_range_map.SlotRangeMap.{SlotRangeMap}
 
+-- the value that is the answer
+pub record Answered (bs : List ℕ) : Type 0 where
+  pub answer : Value
+  pub rest : List ℕ
+  pub begins : Begins 8 bs answer rest
+  pub alone_is : answered bs ≡ Some answer
+
 module _ (answering bs : List ℕ) where
-  nothing_read : (r : Option (Read Value)) → None ≡ seen r → alone r ≡ None
-  nothing_read None h = refl
-  nothing_read (Some x) h = absurd (differ h)
+  unreadable : (o : Option Value) → answered bs ≡ o → None ≡ option_map first_error o → Err Unreadable ≡ slots answering bs
+  unreadable None is h = sym (ap (slots_of answering) is)
+  unreadable (Some v) is h = absurd (none-some _ h)
 
-  pub unreadable : None ≡ seen (value 8 bs) → Err Unreadable ≡ slots answering bs
-  unreadable h = sym (ap (slots_of answering) (nothing_read (value 8 bs) h))
+  readable : (r : Option (Read Value)) → value 8 bs ≡ r → (o : Option (List ℕ)) → Some o ≡ option_map first_error (alone r) → Answered bs
+  unfolding Begins
+  readable None e o h = absurd (none-some _ (sym h))
+  readable (Some x) e o h = go (eqb (length x.rest) 0) refl h
+    where
+      go : (b : Bool) → eqb (length x.rest) 0 ≡ b → Some o ≡ option_map first_error (cond b (Some x.value) None) → Answered bs
+      go true t h = record { answer = x.value; rest = x.rest; begins = e; alone_is = ap alone e ∙ ap (λ b. cond b (Some x.value) None) t }
+      go false t h = absurd (none-some _ (sym h))
 
-  module _ (w : Walk) (found : told_walk bs (Some w) ≡ seen (value 8 bs)) where
-    too_long : (r : Option (Read Value)) → told_walk bs (Some w) ≡ seen r → w.len < length bs → alone r ≡ None
-    too_long None h k = absurd (differ (sym h))
-    too_long (Some x) h k =
-        let some : length x.rest ≡ 0 → ⊥ = omega (arith, ap length (same_rest h), length-drop w.len bs) in
-        ap (λ b. cond b (Some x.value) None) (ne_eqb (length x.rest) 0 some)
+  -- what it tells of an answer whether it is one value
+  abbrev pub Passed : Option Walk → Type 0
+  Passed None = Err Unreadable ≡ slots answering bs
+  Passed (Some w) = Answered bs
 
-    pub more_behind : w.len < length bs → Err Unreadable ≡ slots answering bs
-    more_behind k = sym (ap (slots_of answering) (too_long (value 8 bs) found k))
+  pub passed : (r : Option Walk) → told_whole bs r ≡ option_map first_error (answered bs) → Passed r
+  passed None found = unreadable (answered bs) refl found
+  passed (Some w) found = readable (value 8 bs) refl (text_at bs w.error) found
 
-    -- the value, and that it is the answer
-    pub record Answered : Type 0 where
-      pub answer : Value
-      pub rest : List ℕ
-      pub begins : Begins 8 bs answer rest
-      pub alone_is : answered bs ≡ Some answer
-
-    pub readable : length bs ≤ w.len → Answered
-    unfolding Begins
-    readable k = go (value 8 bs) refl found
-      where
-        go : (r : Option (Read Value)) → value 8 bs ≡ r → told_walk bs (Some w) ≡ seen r → Answered
-        go None e h = absurd (differ (sym h))
-        go (Some x) e h =
-            let all : length x.rest ≡ 0 = omega (arith, ap length (same_rest h), length-drop w.len bs) in
-            record { answer = x.value; rest = x.rest; begins = e; alone_is = ap alone e ∙ ap (λ b. cond b (Some x.value) None) (eq-eqb (length x.rest) 0 all) }
+-- how a refusal came about
+pub refused_as : {A E : Type 0} (o : Option A) (x e : E) → Err e ≡ ok_or o x → e ≡ x
+refused_as None x e h = cc
+refused_as (Some y) x e h = let z : ◌≡◌ {A = ℕ} 0 1 = cc in absurd (omega arith)
 
 -- the limits, in two steps
 module _ (rs : List Range) where

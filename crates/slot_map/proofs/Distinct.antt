@@ -1,18 +1,22 @@
 -- Keys that are put into a table one by one stand there once each.
-use Rattle.std.proofs.Common.{◌≡◌, ℕ, ◌≤◌, Bool, true, false, ◌⊎◌, List, [], ◌∷◌, ◌++◌, length, Ordering, Less, Equal, Greater, sym, refl, ap, ◌∙◌, subst, inl, inr, ⊎_elim, arith}
+use Rattle.std.proofs.Common.{◌≡◌, ℕ, ◌≤◌, Bool, true, false, ◌⊎◌, List, [], ◌∷◌, ◌++◌, length, Ok, Err, Result, Ordering, Less, Equal, Greater, sym, refl, ap, ◌∙◌, subst, inl, inr, ⊎_elim, arith}
 use Rattle.std.proofs.lemmas.Bool.{and_parts, and_from}
 use Rattle.std.specs.List.{flat_map}
+use Rattle.std.specs.Result.{IsOk}
+use Rattle.errors.specs.declared.redis_error.Refusal.{Refusal}
 use Rattle.std.specs.Ordering.{ordering_reverse}
 use Rattle.node.specs.Ranks.{address_rank}
 use Rattle.node.specs.declared.address.NodeAddress.{NodeAddress}
 use Rattle.ordered.proofs.Puts.{changed_put}
 use Rattle.ordered.proofs.Ranks.{is_less}
-use Rattle.ordered.specs.Orders.{addresses_total}
+use Rattle.ordered.specs.Orders.{addresses_total, lawful}
 use Rattle.ordered.specs.Table.{by, above, ascending, put}
 use Rattle.ordered.specs.Total.{Total}
 use Rattle.slot_map.specs.Distinct.{Among, EachOnce}
 use Rattle.slot_map.specs.Range.{Range}
+use Rattle.slot_map.specs.Sets.{Collected}
 use Rattle.slot_map.specs.Table.{filled, wanted, addresses}
+use Rattle.slot_map.specs.declared.address_set.AddressSet.{AddressSet}
 
 module _ {K : Type 0} (rank : K → K → Ordering) (total : Total rank) where
   put_at : (o : Ordering) (e x a : K) (xs ys : List K) → rank x e ≡ o → (Among a ys → (a ≡ e) ⊎ Among a xs) → Among a (by o (x ∷ ys) (e ∷ xs) (e ∷ x ∷ xs)) → (a ≡ e) ⊎ Among a (x ∷ xs)
@@ -63,7 +67,7 @@ module _ {K : Type 0} (rank : K → K → Ordering) (total : Total rank) where
 
   filled_ascends : (t xs : List K) → ascending (λ x. x) rank t ≡ true → ascending (λ x. x) rank (filled (λ x. x) rank t xs) ≡ true
   filled_ascends t [] h = h
-  filled_ascends t (x ∷ xs) h = filled_ascends (put (λ y. y) rank x t) xs (changed_put (λ y. y) rank x total t h).strict
+  filled_ascends t (x ∷ xs) h = filled_ascends (put (λ y. y) rank x t) xs (changed_put (λ y. y) rank x (lawful total) t h).strict
 
   above_all : (x a : K) (ys : List K) → above (λ y. y) rank x ys ≡ true → Among a ys → rank x a ≡ Less
   above_all x a [] h k = absurd k
@@ -124,3 +128,8 @@ wanted_fewer true rs =
     let other = each_once (flat_map (wanted false) rs) in
     fewer address_rank addresses_total (addresses false rs) (addresses true rs) one.strict other.strict (λ a h. other.all a (nodes_too a rs (one.only a h)))
 wanted_fewer false rs = omega arith
+
+-- so few are collected
+pub all_fit : (only : Bool) (rs : List Range) (r : Result AddressSet Refusal) → Collected only rs r → length (addresses only rs) ≤ 64 → IsOk r
+all_fit only rs (Ok s) h k = refl
+all_fit only rs (Err e) h k = absurd (omega (arith, h.1, k))

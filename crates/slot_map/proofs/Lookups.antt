@@ -1,7 +1,10 @@
 -- The range with the smallest end at or above a slot, in a table.
-use Rattle.std.proofs.Common.{◌≡◌, ℕ, zero, suc, ◌<◌, ◌≤◌, Bool, true, false, cond, ◌&&◌, leb, List, [], ◌∷◌, map, length, get_or, Some, None, Option, Ordering, Less, Equal, Greater, sym, refl, ap, ◌∙◌, subst, arith}
+use Rattle.std.proofs.Common.{◌≡◌, ℕ, zero, suc, ◌<◌, ◌≤◌, Bool, true, false, cond, ◌&&◌, leb, List, [], ◌∷◌, map, length, get_or, MatchOption, Some, None, Option, Ordering, Less, Equal, Greater, sym, refl, ap, ◌∙◌, subst, arith}
 use Rattle.std.proofs.lemmas.Bool.{and_parts, lt-leb, le-leb, cond-true, cond-false}
+use Rattle.std.specs.Bool.{then_some}
 use Rattle.std.specs.Cmp.{ranks}
+use Rattle.std.specs.List.{ItemBy}
+use Rattle.std.specs.Option.{option_map}
 use Rattle.std.specs.Ordering.{MatchOrdering, is_lt, nat_cmp}
 use Rattle.ordered.specs.Table.{above, ascending}
 use Rattle.slot_map.specs.Range.{Range, range_of}
@@ -61,14 +64,20 @@ module _ (slot : ℕ) where
       ∙ near xs i d (and_parts _ _ up).1 (omega arith) (λ j e low. before (suc j) e (omega arith)) here
 
   module _ (xs : List SlotRange) (at : ℕ) (up : ascending (λ r. r.end) nat_cmp xs ≡ true) (reaching : Reaching slot xs at) where
-    pub not_covered : length xs ≤ at → None ≡ covering slot (map range_of xs)
+    not_covered : length xs ≤ at → None ≡ covering slot (map range_of xs)
     not_covered h = sym (ap (started slot) (none_near xs (λ i d low. reaching.1 i d (omega arith))))
 
     at_hand : (x : SlotRange) → x ≡ get_or xs at x → at < length xs → covering slot (map range_of xs) ≡ cond (leb x.start slot) (Some (range_of x)) None
     at_hand x is h = ap (started slot) (near xs at x up h reaching.1 (reaching.2 x h) ∙ ap (λ y. Some (range_of y)) (sym is))
 
-    pub covered : (x : SlotRange) → x ≡ get_or xs at x → at < length xs → x.start ≤ slot → Some (range_of x) ≡ covering slot (map range_of xs)
-    covered x is h k = sym (at_hand x is h ∙ cond-true (leb x.start slot) (Some (range_of x)) None (le-leb x.start slot k))
+    -- the range at the place, if it starts at or below the slot
+    module _ {R : Type 0} (now : R → SlotRange) (Test : R → Bool → Type 0) (tests : (x : R) (b : Bool) → Test x b → b ≡ leb (now x).start slot) where
+      kept : (b : Bool) (x : R) → option_map (λ y. range_of (now y)) (then_some b x) ≡ cond b (Some (range_of (now x))) None
+      kept true x = refl
+      kept false x = refl
 
-    pub starts_later : (x : SlotRange) → x ≡ get_or xs at x → at < length xs → slot < x.start → None ≡ covering slot (map range_of xs)
-    starts_later x is h k = sym (at_hand x is h ∙ cond-false (leb x.start slot) (Some (range_of x)) None (lt-leb x.start slot k))
+      pub looked_up : (found o : Option R) → ItemBy now xs at at found → MatchOption found (o ≡ None) (λ x. (b : Bool) × Test x b × (o ≡ then_some b x)) → option_map (λ x. range_of (now x)) o ≡ covering slot (map range_of xs)
+      looked_up None o h k = ap (option_map (λ y. range_of (now y))) k ∙ not_covered h.3
+      looked_up (Some x) o h k =
+          ap (option_map (λ y. range_of (now y))) k.2 ∙ kept k.0 x ∙ ap (λ b. cond b (Some (range_of (now x))) None) (tests x k.0 k.1)
+          ∙ sym (at_hand (now x) h.1 h.3.0)

@@ -1,59 +1,57 @@
 -- A range: its first slot, its last slot, and its nodes.
-use Rattle.std.proofs.Common.{◌≡◌, ℕ, zero, suc, ◌<◌, List, [], ◌∷◌, length, IsSomeAnd, Some, None, Ok, Err, Option, Result, sym, refl, ap, ◌∙◌, subst, arith}
+use Rattle.std.proofs.Common.{◌≡◌, ℕ, ◌<◌, List, [], ◌∷◌, length, IsSomeAnd, Some, None, Ok, Err, Option, Result, sym, refl, ap, ◌∙◌, subst, arith}
 use Rattle.errors.specs.declared.redis_error.Refusal.{Refusal}
 use Rattle.node.specs.declared.address.NodeAddress.{NodeAddress}
-use Rattle.resp.specs.Value.{Value, Values, more}
-use Rattle.slot_map.proofs.Elements.{Elements, next, none_left, Fields}
-use Rattle.slot_map.specs.Answer.{array_of, nodes, slot_of, served, bounded, range_of_items, range}
-use Rattle.slot_map.specs.Front.{Follow, Serves, Ranged}
+use Rattle.resp.specs.Value.{Value, array, Values, none, more}
+use Rattle.slot_map.specs.Answer.{nodes, served, slot_of, bounded, range_of_items, range}
+use Rattle.slot_map.specs.Elements.{Come, Heads}
+use Rattle.slot_map.specs.Front.{NoRange, Serves, Ranged}
+use Rattle.slot_map.specs.Range.{Range}
 use Rattle.slot_map.specs.declared.slot_range.SlotRange.{SlotRange}
+use Rattle.slot_map.specs.declared.topology.elements.Elements.{Elements}
 
-nothing_served : (s e : Option ℕ) → None ≡ bounded s e []
-nothing_served None e = refl
-nothing_served (Some s) None = refl
-nothing_served (Some s) (Some e) = refl
+too_many : (s e : ℕ) (ns : List NodeAddress) → 9 < length ns → IsSomeAnd (served s e ns) (λ r. 8 < length r.replicas)
+too_many s e [] h = absurd (omega (arith, h))
+too_many s e (n ∷ ns) h = omega (arith, h)
 
-no_end_bound : (s : Option ℕ) (ns : List NodeAddress) → None ≡ bounded s None ns
+-- the range that its nodes serve
+pub ranged : (s e : ℕ) (ns : List NodeAddress) (o : Option Range) → o ≡ served s e ns → (r : Result (Option SlotRange) Refusal) → Serves s e ns r → Ranged o r
+ranged s e ns o is (Ok r) h = h ∙ sym is
+ranged s e ns o is (Err x) h = (h.0, subst (λ p. IsSomeAnd p (λ r. 8 < length r.replicas)) (sym is) (too_many s e ns h.1))
+
+no_end_bound : (s : Option ℕ) (ns : List NodeAddress) → bounded s None ns ≡ None
 no_end_bound None ns = refl
 no_end_bound (Some s) ns = refl
 
-no_items : (answering : List ℕ) (d n : ℕ) (bs behind : List ℕ) (vs : Values) → n < 3 → Follow d n bs vs behind → None ≡ range_of_items answering (Some vs)
-no_items answering d zero bs behind vs h f = ap (λ us. range_of_items answering (Some us)) (none_left d bs behind vs f)
-no_items answering d (suc zero) bs behind vs h f =
-    let x = next d 0 bs behind vs f in
-    sym (ap (λ us. range_of_items answering (Some us)) (x.is ∙ ap (more x.first) (sym (none_left d x.rest behind x.others x.follow))))
-no_items answering d (suc (suc zero)) bs behind vs h f =
-    let x = next d 1 bs behind vs f in
-    let y = next d 0 x.rest behind x.others x.follow in
-    let last = none_left d y.rest behind y.others y.follow in
-    let all = x.is ∙ ap (more x.first) (y.is ∙ ap (more y.first) (sym last)) in
-    nothing_served (slot_of x.first) (slot_of y.first) ∙ sym (ap (λ us. range_of_items answering (Some us)) all)
-no_items answering d (suc (suc (suc n))) bs behind vs h f = absurd (omega arith)
+-- what the elements of its array make of it
+module _ (v : Value) (vs : Values) (is : v ≡ array vs) where
+  pub no_item : none ≡ vs → NoRange v
+  no_item h answering = ap (range answering) is ∙ ap (λ us. range_of_items answering (Some us)) (sym h)
 
-pub few_items : (answering : List ℕ) (d n : ℕ) (bs behind : List ℕ) (v : Value) → n < 3 → Elements d n bs behind v → None ≡ range answering v
-few_items answering d n bs behind v h e = no_items answering d n bs behind e.values h e.follow ∙ sym (ap (range answering) e.is)
+  module _ (first : Value) (others : Values) (begins : vs ≡ more first others) where
+    whole : (answering : List ℕ) → range answering v ≡ range_of_items answering (Some (more first others))
+    whole answering = ap (range answering) is ∙ ap (λ us. range_of_items answering (Some us)) begins
 
-pub other_range : (answering : List ℕ) (v : Value) → array_of v ≡ None → None ≡ range answering v
-other_range answering v e = sym (ap (range_of_items answering) e)
+    pub no_start : None ≡ slot_of first → NoRange v
+    no_start h answering = whole answering ∙ go others
+      where
+        go : (us : Values) → range_of_items answering (Some (more first us)) ≡ None
+        go none = refl
+        go (more second us) = ap (λ o. bounded o (slot_of second) (nodes answering us)) (sym h)
 
-many_served : (s e : ℕ) (ns : List NodeAddress) → 9 < length ns → IsSomeAnd (served s e ns) (λ r. 8 < length r.replicas)
-many_served s e [] h = absurd (omega arith)
-many_served s e (n ∷ ns) h = omega arith
+    pub one_item : none ≡ others → NoRange v
+    one_item h answering = whole answering ∙ ap (λ us. range_of_items answering (Some (more first us))) (sym h)
 
-ranged : (s e : ℕ) (ns : List NodeAddress) (r : Result (Option SlotRange) Refusal) → Serves s e ns r → Ranged (served s e ns) r
-ranged s e ns (Ok x) h = h
-ranged s e ns (Err x) h = (h.0, many_served s e ns h.1)
+    module _ (second : Value) (rest : Values) (goes_on : others ≡ more second rest) where
+      two_items : (answering : List ℕ) → range answering v ≡ bounded (slot_of first) (slot_of second) (nodes answering rest)
+      two_items answering = whole answering ∙ ap (λ us. range_of_items answering (Some (more first us))) goes_on
 
--- what the items make of the range
-module _ (answering : List ℕ) (d n : ℕ) (bs behind : List ℕ) (v : Value) (f : Fields d n bs behind v) where
-  whole : range answering v ≡ bounded (slot_of f.first) (slot_of f.second) (nodes answering f.others)
-  whole = ap (range answering) f.is
+      pub no_end : None ≡ slot_of second → NoRange v
+      no_end h answering = two_items answering ∙ ap (λ o. bounded (slot_of first) o (nodes answering rest)) (sym h) ∙ no_end_bound (slot_of first) (nodes answering rest)
 
-  pub no_start : slot_of f.first ≡ None → None ≡ range answering v
-  no_start h = sym (whole ∙ ap (λ o. bounded o (slot_of f.second) (nodes answering f.others)) h)
-
-  pub no_end : slot_of f.second ≡ None → None ≡ range answering v
-  no_end h = no_end_bound (slot_of f.first) (nodes answering f.others) ∙ sym (whole ∙ ap (λ o. bounded (slot_of f.first) o (nodes answering f.others)) h)
-
-  pub whole_range : (s e : ℕ) → slot_of f.first ≡ Some s → slot_of f.second ≡ Some e → (r : Result (Option SlotRange) Refusal) → Serves s e (nodes answering f.others) r → Ranged (range answering v) r
-  whole_range s e p q r h = subst (λ o. Ranged o r) (sym (whole ∙ (λ i. bounded (p i) (q i) (nodes answering f.others)))) (ranged s e (nodes answering f.others) r h)
+      pub heads : (s e : ℕ) (es : Elements) (behind : List ℕ) → Some s ≡ slot_of first → Some e ≡ slot_of second → Come 6 es rest behind → Heads s e es behind v
+      heads s e es behind p q come = record {
+        values = rest;
+        come = come;
+        is = λ answering. two_items answering ∙ sym (λ i. bounded (p i) (q i) (nodes answering rest));
+      }

@@ -1,32 +1,32 @@
 -- The nodes of a range, one at a time.
-use Rattle.std.proofs.Common.{◌≡◌, ℕ, ◌+◌, ◌-◌, ◌<◌, ◌≤◌, List, [], ◌++◌, length, take, drop, Some, None, Option, sym, refl, ap, ◌∙◌, append_assoc, append-nil, arith, length-append}
+use Rattle.std.proofs.Common.{◌≡◌, ℕ, ◌<◌, List, [], ◌++◌, length, Some, None, Option, Result, sym, refl, ap, ◌∙◌, append_assoc, append-nil, arith, length-append, Ok}
 use Rattle.std.specs.Option.{option_map, option_to_list}
 use Rattle.node.specs.declared.address.NodeAddress.{NodeAddress}
-use Rattle.resp.specs.Reading.{value}
-use Rattle.resp.specs.Told.{seen, told_walk}
 use Rattle.resp.specs.Value.{Values}
-use Rattle.resp.specs.declared.place.Walk.{Walk}
-use Rattle.slot_map.proofs.Elements.{Next, turn, onward, all_left, all_read}
+use Rattle.std.specs.Borrow.{Bor}
+use Rattle.errors.specs.declared.redis_error.Refusal.{Refusal}
+use Rattle.slot_map.proofs.Elements.{Turn, turn_as, no_more}
 use Rattle.slot_map.specs.Answer.{node, nodes, served}
-use Rattle.slot_map.specs.Front.{Follow}
+use Rattle.slot_map.specs.Elements.{Come, Gives}
+use Rattle.slot_map.specs.declared.topology.elements.Elements.{Elements}
 use Rattle.slot_map.specs.Range.{range_of}
 use Rattle.slot_map.specs.declared.slot_range.SlotRange.{SlotRange}
 
--- what the loop keeps: i of n nodes were seen, and the others stand from `at` on
-pub record Sofar (answering : List ℕ) (s e n i at : ℕ) (bs : List ℕ) (range : Option SlotRange) (vs : Values) (behind : List ℕ) : Type 0 where
+-- what the loop keeps: some nodes were seen, and the others come
+pub record Sofar (answering : List ℕ) (s e : ℕ) (es : Elements) (range : Option SlotRange) (vs : Values) (behind : List ℕ) : Type 0 where
   pub before : List NodeAddress
   pub left : Values
-  pub follow : Follow 6 (n - i) (drop at bs) left behind
+  pub come : Come 6 es left behind
   pub told : option_map range_of range ≡ served s e before
   pub whole : nodes answering vs ≡ before ++ nodes answering left
 
-pub begins : (answering : List ℕ) (s e n : ℕ) (bs : List ℕ) (vs : Values) (behind : List ℕ) → Follow 6 n bs vs behind → Sofar answering s e n 0 0 bs None vs behind
-begins answering s e n bs vs behind f = record { before = []; left = vs; follow = all_left 6 n bs behind vs f; told = refl; whole = refl }
+pub begins : (answering : List ℕ) (s e : ℕ) (es : Elements) (vs : Values) (behind : List ℕ) → Come 6 es vs behind → Sofar answering s e es None vs behind
+begins answering s e es vs behind come = record { before = []; left = vs; come = come; told = refl; whole = refl }
 
-module _ (answering : List ℕ) (s e n i at : ℕ) (bs : List ℕ) (range : Option SlotRange) (vs : Values) (behind : List ℕ) (so_far : Sofar answering s e n i at bs range vs behind) where
-  module _ (left : i < n) where
-    abbrev pub here : Next 6 (n - (i + 1)) (take (length bs - at) (drop at bs)) behind so_far.left
-    here = turn 6 n i at bs behind so_far.left left so_far.follow
+module _ {answering : List ℕ} {s e : ℕ} {es : Elements} {range : Option SlotRange} {vs : Values} {behind : List ℕ} (so_far : Sofar answering s e es range vs behind) (next : Elements) where
+  module _ {r : Result (Bor (List ℕ)) Refusal} {x : Bor (List ℕ)} (is-next : r ≡ Ok x) (gives : Gives es (Some r) next) where
+    abbrev pub here : Turn 6 x.now next so_far.left behind
+    here = turn_as so_far.come next is-next gives
 
     with_next : nodes answering vs ≡ (so_far.before ++ option_to_list (node answering here.first)) ++ nodes answering here.others
     with_next =
@@ -40,18 +40,16 @@ module _ (answering : List ℕ) (s e n i at : ℕ) (bs : List ℕ) (range : Opti
         omega (arith, all, same)
 
     pub goes_on : (o : Option NodeAddress) → o ≡ node answering here.first → (next-range : Option SlotRange) → option_map range_of next-range ≡ served s e (so_far.before ++ option_to_list o) →
-        (w : Walk) → told_walk (take (length bs - at) (drop at bs)) (Some w) ≡ seen (value 6 (take (length bs - at) (drop at bs))) →
-        Sofar answering s e n (i + 1) (at + w.len) bs next-range vs behind
-    goes_on o is next-range told w h = record {
+        Sofar answering s e next next-range vs behind
+    goes_on o is next-range told = record {
       before = so_far.before ++ option_to_list o;
       left = here.others;
-      follow = onward 6 n i at bs behind so_far.left left so_far.follow w h;
+      come = here.come;
       told = told;
       whole = with_next ∙ ap (λ p. (so_far.before ++ option_to_list p) ++ nodes answering here.others) (sym is);
     }
 
-  pub ends : n ≤ i → option_map range_of range ≡ served s e (nodes answering vs)
+  pub ends : Gives es None next → option_map range_of range ≡ served s e (nodes answering vs)
   ends h =
-      let last = all_read 6 n i (drop at bs) behind so_far.left h so_far.follow in
-      let all = so_far.whole ∙ ap (λ us. so_far.before ++ nodes answering us) (sym last) ∙ append-nil so_far.before in
+      let all = so_far.whole ∙ ap (λ us. so_far.before ++ nodes answering us) (sym (no_more so_far.come next h)) ∙ append-nil so_far.before in
       so_far.told ∙ ap (served s e) (sym all)

@@ -1,5 +1,5 @@
 -- What stands at the front of some bytes.
-use Rattle.std.specs.Prelude.{◌≡◌, ℕ, ◌<◌, List, length, IsSomeAnd, Ok, Err, Option, Result}
+use Rattle.std.specs.Prelude.{◌≡◌, ℕ, ◌<◌, List, length, IsSomeAnd, None, Ok, Err, Option, Result}
 use Rattle.std.specs.Option.{option_map}
 use Rattle.errors.specs.declared.redis_error.Refusal.{Refusal}
 use Rattle.errors.specs.declared.redis_error.Refusal.TheVariants.{SlotTable}
@@ -7,7 +7,7 @@ use Rattle.node.specs.declared.address.NodeAddress.{NodeAddress}
 use Rattle.resp.specs.Read.{read}
 use Rattle.resp.specs.Reading.{several, value}
 use Rattle.resp.specs.Value.{Value, Values}
-use Rattle.slot_map.specs.Answer.{served}
+use Rattle.slot_map.specs.Answer.{served, range}
 use Rattle.slot_map.specs.Range.{Range, range_of}
 use Rattle.slot_map.specs.declared.slot_range.SlotRange.{SlotRange}
 
@@ -22,6 +22,10 @@ Follow d n bs vs rest = several (value d) n bs ≡ read vs rest
 -- P holds of the value at the front, if there is one
 abbrev pub Front : ℕ → List ℕ → (Value → List ℕ → Type 0) → Type 0
 Front d bs P = (v : Value) (rest : List ℕ) → Begins d bs v rest → P v rest
+
+-- whoever answered, no range
+abbrev pub NoRange : Value → Type 0
+NoRange v = (answering : List ℕ) → range answering v ≡ None
 
 -- the range that these nodes serve; or they are too many
 abbrev pub Serves : ℕ → ℕ → List NodeAddress → Result (Option SlotRange) Refusal → Type 0

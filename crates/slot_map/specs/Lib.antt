@@ -1,7 +1,7 @@
 pub mod Range
 pub mod Answer
 pub mod Front
-pub mod Bounds
+pub mod Elements
 pub mod Table
 pub mod Distinct
 pub mod Tables

@@ -1,7 +1,8 @@
 -- A range of slots, both ends included, and the nodes that serve it.
-use Rattle.std.specs.Prelude.{◌≡◌, ℕ, List, [], ◌∷◌, ◌++◌, length, take, Ok, Err, Result}
+use Rattle.std.specs.Prelude.{◌≡◌, ℕ, List, [], ◌∷◌, ◌++◌, length, Ok, Err, Result}
 use Rattle.errors.specs.declared.redis_error.Refusal.{Refusal}
 use Rattle.errors.specs.declared.redis_error.Refusal.TheVariants.{SlotTable}
+use Rattle.ordered.specs.Rows.{row_of}
 use Rattle.node.specs.declared.address.NodeAddress.{NodeAddress}
 use Rattle.slot_map.specs.declared.slot_range.SlotRange.{SlotRange}
 
@@ -12,7 +13,7 @@ pub record Range : Type 0 where
   pub replicas : List NodeAddress
 
 abbrev pub range_of : SlotRange → Range
-range_of r = record { start = r.start; end = r.end; primary = r.primary; replicas = take r.count r.replicas }
+range_of r = record { start = r.start; end = r.end; primary = r.primary; replicas = row_of r.replicas }
 
 abbrev pub with_replica : NodeAddress → Range → Range
 with_replica a r = record { start = r.start; end = r.end; primary = r.primary; replicas = r.replicas ++ (a ∷ []) }

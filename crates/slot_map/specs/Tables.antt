@@ -1,8 +1,9 @@
 -- What the code's tables say.
-use Rattle.std.specs.Prelude.{◌≡◌, ℕ, ◌<◌, ◌≤◌, true, false, List, map, length, take, Ok, Err, Result, slice_index_or}
+use Rattle.std.specs.Prelude.{◌≡◌, ℕ, ◌<◌, ◌≤◌, true, false, List, map, length, Ok, Err, Result, slice_index_or}
 use Rattle.errors.specs.declared.redis_error.Refusal.{Refusal}
 use Rattle.errors.specs.declared.redis_error.Refusal.TheVariants.{SlotTable}
 use Rattle.ordered.specs.Table.{put}
+use Rattle.ordered.specs.Tables.{table_of}
 use Rattle.slot_map.specs.Range.{Range, range_of}
 use Rattle.slot_map.specs.Table.{table, listable}
 use Rattle.slot_map.specs.declared.slot_range.SlotRange.{SlotRange}
@@ -10,7 +11,7 @@ use Rattle.slot_map.specs.declared.slot_range_map.SlotRangeMap.{SlotRangeMap}
 use Rattle.std.specs.Ordering.{nat_cmp}
 
 abbrev pub ranges_of : SlotRangeMap → List Range
-ranges_of m = map range_of (take m.count m.ranges)
+ranges_of m = map range_of (table_of m.ranges)
 
 -- the range is in its place; or all places are taken, and nothing changed
 abbrev pub Put : Range → SlotRangeMap → SlotRangeMap → Result Unit Refusal → Type 0

@@ -1,8 +1,5 @@
-ghost use Rattle.std.specs.Prelude.{◌≡◌, ◌≤◌, true, length, take};
-ghost use Rattle.node.specs.Ranks.{address_rank};
-ghost use Rattle.ordered.specs.Table.{ascending};
-
 use node::NodeAddress;
+use ordered::Table;
 
 mod methods;
 
@@ -14,9 +11,5 @@ pub(crate) const MOST_ADDRESSES: usize = 64;
 // Addresses, each once, ascending.
 #[derive(Clone, Copy)]
 pub struct AddressSet {
-    items: [NodeAddress; MOST_ADDRESSES],
-    count: usize,
-    ghost all: { length items ≡ 64 },
-    ghost few: { count ≤ 64 },
-    ghost ascends: { ascending (λ a. a) address_rank (take count items) ≡ true },
+    addresses: Table<NodeAddress, MOST_ADDRESSES>,
 }

@@ -1,6 +1,5 @@
-ghost use Rattle.std.specs.Prelude.{◌≡◌, ◌≤◌, length};
-
 use node::NodeAddress;
+use ordered::Row;
 
 mod entry;
 mod methods;
@@ -8,14 +7,18 @@ mod methods;
 // The most replicas that a range may have.
 pub(crate) const MOST_REPLICAS: usize = 8;
 
+// The first and the last slot of a range.
+#[derive(Clone, Copy, Debug, PartialEq, Eq)]
+pub(crate) struct Bounds {
+    pub(crate) start: u16,
+    pub(crate) end: u16,
+}
+
 // A range of slots, both ends included, and the nodes that serve it.
 #[derive(Clone, Copy)]
 pub struct SlotRange {
     start: u16,
     end: u16,
     primary: NodeAddress,
-    replicas: [NodeAddress; MOST_REPLICAS],
-    count: usize,
-    ghost few: { count ≤ 8 },
-    ghost all: { length replicas ≡ 8 },
+    replicas: Row<NodeAddress, MOST_REPLICAS>,
 }

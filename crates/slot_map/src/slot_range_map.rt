@@ -1,8 +1,5 @@
-ghost use Rattle.std.specs.Prelude.{◌≡◌, ◌≤◌, true, length, take};
-ghost use Rattle.ordered.specs.Table.{ascending};
-ghost use Rattle.std.specs.Ordering.{nat_cmp};
-
 use crate::slot_range::SlotRange;
+use ordered::Table;
 
 mod methods;
 
@@ -12,9 +9,5 @@ pub(crate) const MOST_RANGES: usize = 256;
 // Ranges by their ends, which ascend strictly.
 #[derive(Clone, Copy)]
 pub(crate) struct SlotRangeMap {
-    ranges: [SlotRange; MOST_RANGES],
-    count: usize,
-    ghost all: { length ranges ≡ 256 },
-    ghost few: { count ≤ 256 },
-    ghost ascends: { ascending (λ r. r.end) nat_cmp (take count ranges) ≡ true },
+    ranges: Table<SlotRange, MOST_RANGES>,
 }

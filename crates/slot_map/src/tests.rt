@@ -4,19 +4,14 @@ use resp::write;
 use std::test::Fail;
 
 fn start(map: &SlotMap, slot: u16) -> Option<u16> {
-    match map.get(slot) {
-        Some(range) => Some(range.start()),
-        None => None,
-    }
+    map.get(slot).map(|range| range.start())
 }
 
 #[test]
 fn finds_the_nearest_range(rt: HostRuntime) -> Result<(), Fail> {
     let answer =
         b"*2\r\n*3\r\n:10\r\n:20\r\n*2\r\n$1\r\nb\r\n:2\r\n*3\r\n:0\r\n:5\r\n*2\r\n$1\r\na\r\n:1\r\n";
-    let Ok(map) = parse_slots(answer, b"h") else {
-        return Err(Fail::new("a slot answer"));
-    };
+    let map = parse_slots(answer, b"h").map_err(|_| "a slot answer")?;
     assert_eq!(rt; start(&map, 0), Some(0));
     assert_eq!(rt; start(&map, 5), Some(0));
     assert_eq!(rt; start(&map, 6), None);
@@ -30,20 +25,18 @@ fn finds_the_nearest_range(rt: HostRuntime) -> Result<(), Fail> {
 fn names_each_address_once(rt: HostRuntime) -> Result<(), Fail> {
     let answer =
         b"*2\r\n*4\r\n:0\r\n:5\r\n*2\r\n$1\r\nb\r\n:2\r\n*2\r\n$-1\r\n:9\r\n*4\r\n:6\r\n:9\r\n*2\r\n$1\r\na\r\n:1\r\n*2\r\n$1\r\nb\r\n:2\r\n";
-    let Ok(map) = parse_slots(answer, b"h") else {
-        return Err(Fail::new("a slot answer"));
-    };
+    let map = parse_slots(answer, b"h").map_err(|_| "a slot answer")?;
     let primaries = map.addresses_for_all_primaries();
     let [first, second] = primaries.as_slice() else {
         return Err(Fail::new("two primaries"));
     };
-    assert!(rt; first.host() == b"a".as_slice());
-    assert!(rt; second.host() == b"b".as_slice());
+    assert_eq!(rt; first.host(), b"a".as_slice());
+    assert_eq!(rt; second.host(), b"b".as_slice());
     let nodes = map.addresses_for_all_nodes();
     let [_, _, third] = nodes.as_slice() else {
         return Err(Fail::new("three addresses"));
     };
-    assert!(rt; third.host() == b"h".as_slice(), "the host that answered");
+    assert_eq!(rt; third.host(), b"h".as_slice(), "the host that answered");
     assert_eq!(rt; third.port(), 9);
     Ok(())
 }
@@ -66,36 +59,35 @@ fn answer(out: &mut [u8], ranges: u16, replicas: u8, apart: bool) -> Option<usiz
     Some(at)
 }
 
-fn is_refused(ranges: u16, replicas: u8, apart: bool) -> Option<bool> {
+fn refusal(ranges: u16, replicas: u8, apart: bool) -> Result<Option<Refusal>, Fail> {
     let mut out = [0; 8192];
-    let len = answer(&mut out, ranges, replicas, apart)?;
-    if len > out.len() {
-        return None;
-    }
-    match parse_slots(&out[0..len], b"-") {
-        Ok(_) => Some(false),
-        Err(Refusal::SlotTable) => Some(true),
-        Err(_) => None,
-    }
+    let len = answer(&mut out, ranges, replicas, apart).ok_or("room for the answer")?;
+    let answer = out.get(..len).ok_or("a length within the room")?;
+    Ok(parse_slots(answer, b"-").err())
 }
 
 #[test]
-fn keeps_the_limits(rt: HostRuntime) {
-    assert_eq!(rt; is_refused(256, 0, false), Some(false));
-    assert_eq!(rt; is_refused(257, 0, false), Some(true));
-    assert_eq!(rt; is_refused(1, 8, false), Some(false));
-    assert_eq!(rt; is_refused(1, 9, false), Some(true));
-    assert_eq!(rt; is_refused(64, 0, true), Some(false));
-    assert_eq!(rt; is_refused(65, 0, true), Some(true));
+fn keeps_the_limits(rt: HostRuntime) -> Result<(), Fail> {
+    assert_eq!(rt; refusal(256, 0, false)?, None);
+    assert_eq!(rt; refusal(257, 0, false)?, Some(Refusal::SlotTable));
+    assert_eq!(rt; refusal(1, 8, false)?, None);
+    assert_eq!(rt; refusal(1, 9, false)?, Some(Refusal::SlotTable));
+    assert_eq!(rt; refusal(64, 0, true)?, None);
+    assert_eq!(rt; refusal(65, 0, true)?, Some(Refusal::SlotTable));
+    Ok(())
 }
 
 #[test]
 fn refuses_what_is_unreadable(rt: HostRuntime) -> Result<(), Fail> {
-    assert!(rt; matches!(parse_slots(b"*1\r\n", b"-"), Err(Refusal::Unreadable)));
-    assert!(rt; matches!(parse_slots(b"*0\r\n*0\r\n", b"-"), Err(Refusal::Unreadable)));
-    let Ok(none) = parse_slots(b"-LOADING x\r\n", b"-") else {
-        return Err(Fail::new("no array, no ranges"));
-    };
+    assert_eq!(rt;
+        parse_slots(b"*1\r\n", b"-").err(),
+        Some(Refusal::Unreadable)
+    );
+    assert_eq!(rt;
+        parse_slots(b"*0\r\n*0\r\n", b"-").err(),
+        Some(Refusal::Unreadable)
+    );
+    let none = parse_slots(b"-LOADING x\r\n", b"-").map_err(|_| "no array, no ranges")?;
     assert!(rt; none.ranges().is_empty());
     Ok(())
 }

@@ -1,12 +1,6 @@
-use Rattle.resp.specs.Reading.{value}
-use Rattle.probe.proofs.Lengths.{length_told, some_bytes}
+use Rattle.std.proofs.Common.{rules}
+use Rattle.probe.proofs.Lengths.{no_value}
 use Rattle.probe.proofs.resp_value_len.Goals as goal
 
-pub returns-in-Some : goal.returns-in-Some
-returns-in-Some c =
-    let bs = c.args.bytes.now in
-    let told = c.in-Some.ensures in
-    record {
-      value = length_told bs c.in-Some.walk (value c.args.depth bs) told.within.0 told.value;
-      absent = λ none. absurd (some_bytes c.args.depth bs c.in-Some.walk told.stands none);
-    }
+pub returns-clause-absent : goal.returns-clause-absent
+returns-clause-absent c = no_value c.args.depth c.args.bytes.now c.map_or.result _ c.read.result c.read.ensures.value c.read.ensures.stands c.map_or.ensures (λ w h. search rules)

@@ -3,19 +3,18 @@ ghost use Rattle.slot_map.specs.Range.{range_of};
 ghost use Rattle.slot_map.specs.Sets.{set_of, Gains, Collected};
 ghost use Rattle.slot_map.specs.Table.{wanted};
 
-use super::{AddressSet, MOST_ADDRESSES};
+use super::AddressSet;
 use crate::slot_range::SlotRange;
 use errors::Refusal;
 use node::NodeAddress;
-use ordered::insert;
+use ordered::Table;
 
 impl AddressSet {
     fn new() -> AddressSet
         ensures { set_of result ≡ [] }
     {
         AddressSet {
-            items: [NodeAddress::unknown(); MOST_ADDRESSES],
-            count: 0,
+            addresses: Table::new(NodeAddress::unknown()),
         }
     }
 
@@ -24,16 +23,16 @@ impl AddressSet {
         ensures value { result.now ≡ set_of self.now }
         ensures within { length result.now ≤ 64 }
     {
-        &self.items[0..self.count]
+        self.addresses.as_slice()
     }
 
     fn insert(&mut self, address: NodeAddress) -> Result<(), Refusal>
         ensures { Gains (address ∷ []) self.old self.new result }
     {
-        match insert(&mut self.items, &mut self.count, address) {
-            Ok(_) => Ok(()),
-            Err(_) => Err(Refusal::SlotTable),
-        }
+        self.addresses
+            .insert(address)
+            .map_err(|_| Refusal::SlotTable)?;
+        Ok(())
     }
 
     fn extend(&mut self, addresses: &[NodeAddress]) -> Result<(), Refusal>
@@ -57,6 +56,7 @@ impl AddressSet {
 }
 
 // The addresses that the ranges name, of primaries alone or of all nodes.
+// A flag, as the carried-over crate has it: a closure would say no more than the one test.
 pub(crate) fn all_unique_addresses(
     ranges: &[SlotRange],
     only_primaries: bool,

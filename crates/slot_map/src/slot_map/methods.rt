@@ -29,7 +29,7 @@ impl SlotMap {
     pub(crate) fn from_slots(slots: SlotRangeMap) -> Result<SlotMap, Refusal>
         ensures { Limited (ranges_of slots) result }
     {
-        let _ = all_unique_addresses(slots.as_slice(), false)?;
+        all_unique_addresses(slots.as_slice(), false)?;
         Ok(SlotMap { slots })
     }
 
@@ -47,17 +47,15 @@ impl SlotMap {
         self.slots.get(slot)
     }
 
+    // A flag, as the carried-over crate has it: a closure would say no more than the one test.
     fn unique_addresses(&self, only_primaries: bool) -> AddressSet
         ensures value { set_of result ≡ addresses only_primaries (table_of self.now) }
         ensures once { EachOnce (flat_map (wanted only_primaries) (table_of self.now)) (set_of result) }
     {
-        match all_unique_addresses(self.ranges(), only_primaries) {
-            Ok(set) => set,
-            Err(_) => unreachable(),
-        }
+        all_unique_addresses(self.ranges(), only_primaries).unwrap()
     }
 
-    // The addresses of all primaries.
+    // The addresses of all primaries, under its name in the carried-over crate.
     pub fn addresses_for_all_primaries(&self) -> AddressSet
         ensures value { set_of result ≡ addresses true (table_of self.now) }
         ensures once { EachOnce (flat_map (wanted true) (table_of self.now)) (set_of result) }
@@ -65,7 +63,7 @@ impl SlotMap {
         self.unique_addresses(true)
     }
 
-    // The addresses of all primaries and replicas.
+    // The addresses of all primaries and replicas, under its name in the carried-over crate.
     pub fn addresses_for_all_nodes(&self) -> AddressSet
         ensures value { set_of result ≡ addresses false (table_of self.now) }
         ensures once { EachOnce (flat_map (wanted false) (table_of self.now)) (set_of result) }

@@ -1,21 +1,21 @@
 ghost use Rattle.std.specs.Prelude.{◌≡◌, []};
 ghost use Rattle.slot_map.specs.Range.{range_of, Joined};
 
-use super::{MOST_REPLICAS, SlotRange};
+use super::{Bounds, SlotRange};
 use errors::Refusal;
 use node::NodeAddress;
+use ordered::Row;
 
 impl SlotRange {
     // A range without replicas.
-    pub(crate) fn new(start: u16, end: u16, primary: NodeAddress) -> SlotRange
-        ensures { range_of result ≡ record { start = start; end = end; primary = primary; replicas = [] } }
+    pub(crate) fn new(bounds: Bounds, primary: NodeAddress) -> SlotRange
+        ensures { range_of result ≡ record { start = bounds.start; end = bounds.end; primary = primary; replicas = [] } }
     {
         SlotRange {
-            start,
-            end,
+            start: bounds.start,
+            end: bounds.end,
             primary,
-            replicas: [primary; MOST_REPLICAS],
-            count: 0,
+            replicas: Row::new(primary),
         }
     }
 
@@ -23,12 +23,7 @@ impl SlotRange {
     pub(crate) fn push(&mut self, replica: NodeAddress) -> Result<(), Refusal>
         ensures { Joined replica self.old self.new result }
     {
-        if self.count == MOST_REPLICAS {
-            return Err(Refusal::SlotTable);
-        }
-        self.replicas[self.count] = replica;
-        self.count += 1;
-        Ok(())
+        self.replicas.push(replica).map_err(|_| Refusal::SlotTable)
     }
 
     pub fn start(&self) -> u16
@@ -52,6 +47,6 @@ impl SlotRange {
     pub fn replicas(&self) -> &[NodeAddress]
         ensures { result.now ≡ (range_of self.now).replicas }
     {
-        &self.replicas[0..self.count]
+        self.replicas.as_slice()
     }
 }

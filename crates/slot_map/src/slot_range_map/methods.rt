@@ -1,23 +1,23 @@
-ghost use Rattle.std.specs.Prelude.{◌≡◌, [], take};
+ghost use Rattle.std.specs.Prelude.{◌≡◌, []};
+ghost use Rattle.ordered.specs.Tables.{table_of as entries_of};
 ghost use Rattle.std.specs.Option.{option_map};
 ghost use Rattle.slot_map.specs.Range.{range_of};
 ghost use Rattle.slot_map.specs.Table.{covering};
 ghost use Rattle.slot_map.specs.Tables.{ranges_of, Put, Reaching};
 
-use super::{MOST_RANGES, SlotRangeMap};
-use crate::slot_range::SlotRange;
+use super::SlotRangeMap;
+use crate::slot_range::{Bounds, SlotRange};
 use errors::Refusal;
 use node::NodeAddress;
-use ordered::{find, insert};
+use ordered::Table;
 
 impl SlotRangeMap {
     pub(crate) fn new() -> SlotRangeMap
         ensures { ranges_of result ≡ [] }
     {
-        let filler = SlotRange::new(0, 0, NodeAddress::unknown());
+        let filler = SlotRange::new(Bounds { start: 0, end: 0 }, NodeAddress::unknown());
         SlotRangeMap {
-            ranges: [filler; MOST_RANGES],
-            count: 0,
+            ranges: Table::new(filler),
         }
     }
 
@@ -25,26 +25,22 @@ impl SlotRangeMap {
     pub(crate) fn insert(&mut self, range: SlotRange) -> Result<(), Refusal>
         ensures { Put (range_of range) self.old self.new result }
     {
-        match insert(&mut self.ranges, &mut self.count, range) {
-            Ok(_) => Ok(()),
-            Err(_) => Err(Refusal::SlotTable),
-        }
+        self.ranges.insert(range).map_err(|_| Refusal::SlotTable)?;
+        Ok(())
     }
 
     // The ranges, ascending by their ends.
     pub(crate) fn as_slice(&self) -> &[SlotRange]
-        ensures { result.now ≡ take self.now.count self.now.ranges }
+        ensures { result.now ≡ entries_of self.now.ranges }
     {
-        &self.ranges[0..self.count]
+        self.ranges.as_slice()
     }
 
     // Where the first range stands that ends at or above the slot.
     fn first_reaching(&self, slot: u16) -> usize
-        ensures { Reaching slot (take self.now.count self.now.ranges) result }
+        ensures { Reaching slot (entries_of self.now.ranges) result }
     {
-        match find(self.as_slice(), &slot) {
-            Ok(at) | Err(at) => at,
-        }
+        self.ranges.find(&slot).unwrap_or_else(|at| at)
     }
 
     // The range that covers the slot.
@@ -52,15 +48,8 @@ impl SlotRangeMap {
         ensures { option_map (λ x. range_of x.now) result ≡ covering slot (ranges_of self.now) }
     {
         let at = self.first_reaching(slot);
-        let ranges = self.as_slice();
-        if at == ranges.len() {
-            return None;
-        }
-        let range = &ranges[at];
-        if range.start() <= slot {
-            Some(range)
-        } else {
-            None
-        }
+        self.as_slice()
+            .get(at)
+            .filter(|range| range.start() <= slot)
     }
 }

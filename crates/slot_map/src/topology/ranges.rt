@@ -1,89 +1,44 @@
-ghost use Rattle.std.specs.Prelude.{◌≡◌, ◌≤◌, List, ◌++◌, length, is_some, IfSome, Ok};
+ghost use Rattle.std.specs.Prelude.{◌≡◌, ◌≤◌, ℕ, List, ◌++◌, None, Ok, MatchOption};
 ghost use Rattle.std.specs.Option.{option_map, option_to_list};
-ghost use Rattle.slot_map.specs.Answer.{slot, array_of, range as answer_range, ranges as answer_ranges};
-ghost use Rattle.slot_map.specs.Front.{Front, Ranged};
-ghost use Rattle.slot_map.specs.Bounds.{Bounds};
+ghost use Rattle.resp.specs.Value.{Value};
+ghost use Rattle.slot_map.specs.Answer.{slot as answer_slot, slot_of, range as answer_range, ranges as answer_ranges};
+ghost use Rattle.slot_map.specs.Elements.{Stand, Heads};
+ghost use Rattle.slot_map.specs.Front.{Front, Ranged, NoRange};
 ghost use Rattle.slot_map.specs.Range.{Range, range_of};
 ghost use Rattle.slot_map.specs.Tables.{Listed, Gathered};
 
-use super::nodes::nodes;
-use crate::slot_range::SlotRange;
+use super::SlotReader;
+use super::elements::{Elements, array, integer};
+use crate::slot_range::{Bounds, SlotRange};
 use crate::slot_range_map::{MOST_RANGES, SlotRangeMap};
 use errors::Refusal;
-use resp::place::Head;
-use resp::{token, value};
 
-// How deep arrays may be nested in an item of an answer.
+// How deep arrays may be nested in an item of an answer, and in a node of it.
 const ITEM: u32 = 7;
 
-// The first or last slot of a range, and how many bytes it takes.
-#[derive(Clone, Copy)]
-struct SlotBound {
-    slot: u16,
-    len: usize,
-}
+const NODE: u32 = 6;
 
 // A slot's number modulo 65,536.
 fn slot_number(z: i64) -> u16
-    ensures { result ≡ slot z }
+    ensures { result ≡ answer_slot z }
 {
-    if z >= 0 {
-        (z as u64 % 65536) as u16
-    } else {
-        65535 - (-(z + 1) as u64 % 65536) as u16
-    }
+    z.rem_euclid(65536) as u16
 }
 
 // The slot at the front of `bytes`.
-fn bound(bytes: &[u8]) -> Option<SlotBound>
-    ensures within { IfSome result (λ b. b.len ≤ length bytes.now) }
-    ensures value { Front 6 bytes.now (Bounds bytes.now result) }
+fn slot(bytes: &[u8]) -> Option<u16>
+    ensures { Front 6 bytes.now (λ v rest. result ≡ slot_of v) }
 {
-    let token = token::read(bytes)?;
-    match token.head {
-        Head::Integer(z) => Some(SlotBound {
-            slot: slot_number(z),
-            len: token.len,
-        }),
-        _ => None,
-    }
+    Some(slot_number(integer(bytes)?))
 }
 
-// Whether an array stands at the front of `bytes`.
-fn is_array(bytes: &[u8]) -> bool
-    ensures { Front 7 bytes.now (λ v rest. result ≡ is_some (array_of v)) }
+// The bounds of the range that has these elements, and its nodes.
+fn parts(mut elements: Elements<'_>) -> Option<(Bounds, Elements<'_>)>
+    ensures { (v : Value) (rest : List ℕ) → Stand 6 elements.entry rest v → MatchOption result (NoRange v) (λ p. Heads p.0.start p.0.end p.1 rest v) }
 {
-    match token::read(bytes) {
-        Some(token) => matches!(token.head, Head::Array(_)),
-        None => false,
-    }
-}
-
-// The range at the front of `bytes`, if it is one with a usable node.
-fn range<'a>(bytes: &'a [u8], answering: &'a [u8]) -> Result<Option<SlotRange>, Refusal>
-    ensures { Front 7 bytes.now (λ v rest. Ranged (answer_range answering.now v) result) }
-{
-    let Some(token) = token::read(bytes) else {
-        return Ok(None);
-    };
-    let Head::Array(count) = token.head else {
-        return Ok(None);
-    };
-    if count < 3 {
-        return Ok(None);
-    }
-    let at = token.len;
-    let items = &bytes[at..];
-    let Some(start) = bound(items) else {
-        return Ok(None);
-    };
-    let at = start.len;
-    let behind = &items[at..];
-    let Some(end) = bound(behind) else {
-        return Ok(None);
-    };
-    let at = end.len;
-    nodes(&behind[at..], count - 2, start.slot, end.slot, answering)
+    let start = slot(elements.next()?.ok()?)?;
+    let end = slot(elements.next()?.ok()?)?;
+    Some((Bounds { start, end }, elements))
 }
 
 // One range more, if there is one, behind `listed` others. The answer is how many there are now.
@@ -100,30 +55,34 @@ fn list(slots: &mut SlotRangeMap, listed: usize, range: Option<SlotRange>) -> Re
     Ok(listed + 1)
 }
 
-// The ranges of a readable answer, by their ends.
-pub(crate) fn ranges<'a>(answer: &'a [u8], answering: &'a [u8]) -> Result<SlotRangeMap, Refusal>
-    ensures { Front 8 answer.now (λ v rest. Gathered (answer_ranges answering.now v) result) }
-{
-    let mut slots = SlotRangeMap::new();
-    let Some(token) = token::read(answer) else {
-        return Ok(slots);
-    };
-    let Head::Array(count) = token.head else {
-        return Ok(slots);
-    };
-    let mut at = token.len;
-    let mut listed = 0;
-    for _i in 0..count {
-        let rest = &answer[at..];
-        if !is_array(rest) {
-            return Ok(slots);
+impl<'a> SlotReader<'a> {
+    // The range that has these elements, if it is one with a usable node.
+    fn range(self, elements: Elements<'a>) -> Result<Option<SlotRange>, Refusal>
+        ensures { (v : Value) (rest : List ℕ) → Stand 6 elements.entry rest v → Ranged (answer_range self.entry.answering.now v) result }
+    {
+        // A match, since under map_or the closure would need clauses of its own.
+        match parts(elements) {
+            Some((bounds, nodes)) => self.nodes(bounds, nodes),
+            None => Ok(None),
         }
-        let Some(walk) = value::read(rest, ITEM) else {
-            return Err(Refusal::Unreadable);
-        };
-        let range = range(rest, answering)?;
-        listed = list(&mut slots, listed, range)?;
-        at += walk.len;
     }
-    Ok(slots)
+
+    // The ranges of a readable answer, by their ends.
+    pub(super) fn ranges(self, answer: &'a [u8]) -> Result<SlotRangeMap, Refusal>
+        ensures { Front 8 answer.now (λ v rest. Gathered (answer_ranges self.entry.answering.now v) result) }
+    {
+        let mut slots = SlotRangeMap::new();
+        let Some(items) = array(answer, ITEM) else {
+            return Ok(slots);
+        };
+        let mut listed = 0;
+        for item in items {
+            let Some(elements) = array(item?, NODE) else {
+                return Ok(slots);
+            };
+            let range = self.range(elements)?;
+            listed = list(&mut slots, listed, range)?;
+        }
+        Ok(slots)
+    }
 }

@@ -1,10 +1,8 @@
 use Rattle.std.proofs.Common.{◌+◌, length, drop, sym, ap, ◌∙◌, arith}
 use Rattle.node.specs.Ranks.{address_rank}
-use Rattle.std.proofs.lemmas.List.{at_drop_all}
 use Rattle.std.proofs.lemmas.Result.{err_from_is_err_and}
 use Rattle.ordered.specs.Table.{put}
 use Rattle.slot_map.specs.Sets.{set_of}
-use Rattle.slot_map.specs.Table.{filled}
 use Rattle.slot_map.proofs.Tables.{filled_more, length_filled}
 use Rattle.slot_map.proofs.address_set.AddressSet.extend.Goals as goal
 
@@ -19,14 +17,3 @@ returns-in_err-insert c =
     let more = (length_filled (λ a. a) address_rank (put (λ a. a) address_rank x set) (drop (i + 1) xs)).0 in
     let p = err_from_is_err_and c.from_residual.result c.from_residual.ensures.1 in
     rw (p.1, p.2) (refused.0, omega (arith, ap length all, more, refused.1))
-
-pub loop-address-preserved : goal.loop-address-preserved
-loop-address-preserved c =
-    let xs = c.args.addresses.now in
-    let i = c.loop-address.address-index in
-    ap (λ t. filled (λ a. a) address_rank t (drop (i + 1) xs)) c.in_ok-insert.ensures
-    ∙ sym (filled_more (λ a. a) address_rank (set_of c.loop-address.self) xs i c.address-item.result c.loop-address-test.true c.address-item.is) ∙ c.loop-address.invariant
-
-pub returns : goal.returns
-returns c =
-    sym (at_drop_all (filled (λ a. a) address_rank (set_of c.loop-address.self)) c.args.addresses.now c.loop-address.address-index c.loop-address-test.false) ∙ c.loop-address.invariant

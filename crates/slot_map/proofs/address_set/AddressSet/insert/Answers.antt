@@ -1,32 +1,15 @@
-use Rattle.std.proofs.Common.{◌≡◌, ◌≤◌, length, take, refl, arith}
+use Rattle.std.proofs.Common.{arith, rules}
+use Rattle.std.proofs.lemmas.Result.{err_from_is_err_and}
 use Rattle.node.specs.Ranks.{address_rank}
-use Rattle.std.proofs.lemmas.List.{length-take}
-use Rattle.ordered.proofs.Owners.{inserted_table, inserted_ascends}
+use Rattle.ordered.specs.Tables.{table_of, Put}
+use Rattle.slot_map.proofs.Insertions.{refused}
 use Rattle.slot_map.proofs.Tables.{length_put_absent}
 use Rattle.slot_map.proofs.address_set.AddressSet.insert.Goals as goal
 
-pub invariant_of-self : goal.invariant_of-self
-invariant_of-self c =
-    let set = c.args.self.now in
-    let within : set.count ≤ length set.items = omega (arith, set.few, set.all) in
-    let all : length c.insert.new.entries ≡ 64 = omega (arith, c.insert.auto.entries, set.all) in
-    let few : c.insert.new.count ≤ 64 = omega (arith, c.insert.ensures.within within, set.all) in
-    record {
-      all = all;
-      few = few;
-      ascends = inserted_ascends (λ a. a) address_rank c.args.address set.items set.count c.insert.new.entries c.insert.new.count c.insert.result (c.insert.ensures.inserted (within, set.ascends)) set.ascends;
-    }
-
-pub returns-in-Ok : goal.returns-in-Ok
-returns-in-Ok c =
-    let set = c.args.self.now in
-    let within : set.count ≤ length set.items = omega (arith, set.few, set.all) in
-    inserted_table (λ a. a) address_rank c.args.address set.items set.count c.insert.new.entries c.insert.new.count c.in-Ok.field-0 (c.in-Ok.ensures.inserted (within, set.ascends))
-
-pub returns-in-Err : goal.returns-in-Err
-returns-in-Err c =
-    let set = c.args.self.now in
-    let within : set.count ≤ length set.items = omega (arith, set.few, set.all) in
-    let full = c.in-Err.ensures.inserted (within, set.ascends) in
-    let more = length_put_absent (λ a. a) address_rank c.args.address (take set.count set.items) full.1 in
-    (refl, omega (arith, more, length-take set.count set.items, full.0, set.all))
+pub returns-in_err-map_err : goal.returns-in_err-map_err
+returns-in_err-map_err c =
+    let a = c.args.address in
+    let old = c.args.self.now.addresses in
+    let p = err_from_is_err_and c.from_residual.result c.from_residual.ensures.1 in
+    let full = refused (Put a old c.insert.new.self) _ c.insert.result c.map_err.result c.in_err-map_err.field-0.0 c.in_err-map_err.was c.insert.ensures c.map_err.ensures.cases in
+    rw (p.1, p.2) (search rules, omega (arith, full.1.0, length_put_absent (λ b. b) address_rank a (table_of old) full.1.1))

@@ -1,6 +1,5 @@
 use Rattle.std.proofs.Common.{◌+◌, map, length, drop, sym, ap, ◌∙◌, arith}
 use Rattle.node.specs.Ranks.{address_rank}
-use Rattle.std.proofs.lemmas.List.{at_drop_all}
 use Rattle.std.proofs.lemmas.Result.{err_from_is_err_and}
 use Rattle.std.specs.List.{flat_map}
 use Rattle.slot_map.specs.Range.{range_of}
@@ -29,8 +28,3 @@ loop-range-preserved c =
     let only = c.args.only_primaries in
     ap (λ t. filled (λ a. a) address_rank t (flat_map (wanted only) (map range_of (drop (i + 1) rs)))) c.in_ok-insert_range.ensures
     ∙ sym (range_more only (set_of c.loop-range.set) rs i c.range-item.result c.loop-range-test.true c.range-item.is) ∙ c.loop-range.invariant
-
-pub returns : goal.returns
-returns c =
-    sym (at_drop_all (λ l. filled (λ a. a) address_rank (set_of c.loop-range.set) (flat_map (wanted c.args.only_primaries) (map range_of l))) c.args.ranges.now c.loop-range.range-index c.loop-range-test.false)
-    ∙ c.loop-range.invariant

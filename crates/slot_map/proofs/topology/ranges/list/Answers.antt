@@ -1,4 +1,4 @@
-use Rattle.std.proofs.Common.{[], ◌∷◌, ◌++◌, length, sym, refl, ap, ◌∙◌, arith}
+use Rattle.std.proofs.Common.{[], ◌∷◌, ◌++◌, length, sym, ap, ◌∙◌, arith}
 use Rattle.std.proofs.lemmas.List.{length_push}
 use Rattle.std.specs.Option.{option_map, option_to_list}
 use Rattle.ordered.specs.Table.{put}
@@ -7,11 +7,6 @@ use Rattle.slot_map.specs.Table.{table}
 use Rattle.slot_map.proofs.Tables.{filled_append, length_filled}
 use Rattle.slot_map.proofs.topology.ranges.list.Goals as goal
 use Rattle.std.specs.Ordering.{nat_cmp}
-
-pub returns-then-listed-ge-MOST_RANGES : goal.returns-then-listed-ge-MOST_RANGES
-returns-then-listed-ge-MOST_RANGES c rs told =
-    let more = ap (λ o. length (rs ++ option_to_list (option_map range_of o))) c.in-Some.is ∙ length_push rs (range_of c.in-Some.range) in
-    (refl, omega (arith, more, told.1, c.if-listed-ge-MOST_RANGES.true))
 
 pub returns-in_err-insert : goal.returns-in_err-insert
 returns-in_err-insert c rs told =

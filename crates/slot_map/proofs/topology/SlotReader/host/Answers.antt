@@ -1,6 +1,6 @@
 use Rattle.std.proofs.Common.{rules}
 use Rattle.slot_map.specs.Front.{Begins}
-use Rattle.slot_map.proofs.topology.nodes.host.Goals as goal
+use Rattle.slot_map.proofs.topology.SlotReader.host.Goals as goal
 
 pub returns-in_err-place : goal.returns-in_err-place
 unfolding Begins

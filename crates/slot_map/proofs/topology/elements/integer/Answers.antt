@@ -1,6 +1,6 @@
 use Rattle.std.proofs.Common.{rules}
 use Rattle.slot_map.specs.Front.{Begins}
-use Rattle.slot_map.proofs.topology.nodes.port.Goals as goal
+use Rattle.slot_map.proofs.topology.elements.integer.Goals as goal
 
 pub returns-in_err-z : goal.returns-in_err-z
 unfolding Begins

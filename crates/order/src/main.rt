@@ -18,20 +18,14 @@ is what a retry does first; - stands for none. What is cut off counts as dropped
 
 const HINT: &str = "expected: order explain TAPE; 'order help' tells more";
 
-// A tape's bytes. A file that cannot be read is named here, and whole: an error would keep 120 bytes of it.
-fn read_tape(rt: &HostRuntime, path: &str) -> anyhow::Result<Option<Vec<u8>>> {
-    match fs::read(rt, path) {
-        Ok(tape) => Ok(Some(tape)),
-        Err(e) => {
-            eprintln!(rt; "order: cannot read {path}: {e}")?;
-            Ok(None)
-        }
-    }
-}
-
 fn explain_tape(rt: &HostRuntime, path: &str) -> anyhow::Result<ExitCode> {
-    let Some(tape) = read_tape(rt, path)? else {
-        return Ok(ExitCode::FAILURE);
+    let tape = match fs::read(rt, path) {
+        Ok(tape) => tape,
+        Err(e) => {
+            // By hand: a returned error keeps only 120 bytes, and a path may be longer.
+            eprintln!(rt; "order: cannot read {path}: {e}")?;
+            return Ok(ExitCode::FAILURE);
+        }
     };
     let lines = explain(rt.alloc(), tape.as_slice())?;
     rt.stdout().write_all(lines.as_slice())?;
@@ -45,25 +39,17 @@ fn help(rt: &HostRuntime) -> anyhow::Result<ExitCode> {
 
 fn run(rt: &HostRuntime) -> anyhow::Result<ExitCode> {
     let mut args = env::args(rt)?.skip(1);
-    let command = args.next();
-    let operand = args.next();
-    let extra = args.next();
-    let (Some(command), None) = (&command, &extra) else {
-        return Err(anyhow!(HINT));
-    };
-    match (command.as_str(), &operand) {
-        ("explain", Some(path)) => explain_tape(rt, path.as_str()),
-        ("help" | "--help" | "-h", None) => help(rt),
+    let (command, operand, extra) = (args.next(), args.next(), args.next());
+    match (command.as_deref(), operand.as_deref(), extra) {
+        (Some("explain"), Some(path), None) => explain_tape(rt, path),
+        (Some("help" | "--help" | "-h"), None, None) => help(rt),
         _ => Err(anyhow!(HINT)),
     }
 }
 
 fn main(rt: HostRuntime) -> ExitCode {
-    match run(&rt) {
-        Ok(status) => status,
-        Err(e) => {
-            let _ = eprintln!(rt; "order: {e}");
-            ExitCode::FAILURE
-        }
-    }
+    run(&rt).unwrap_or_else(|e| {
+        let _ = eprintln!(rt; "order: {e}");
+        ExitCode::FAILURE
+    })
 }

@@ -1,3 +1,1 @@
-pub mod Each
-pub mod Adding
-pub mod Entries
+pub mod Lines

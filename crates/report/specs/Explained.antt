@@ -10,15 +10,12 @@ use Rattle.errors.specs.declared.redis_error.RetryMethod.{RetryMethod}
 use Rattle.resp.specs.Read.{Read}
 use Rattle.report.specs.Shown.{shown}
 use Rattle.report.specs.Words.{address_word, spaced}
-use Rattle.tape.specs.Entries.{Played, entry}
+use Rattle.tape.specs.Entries.{Played, name, entry}
 use Rattle.tape.specs.declared.entry.Kind.{Kind}
 use Rattle.tape.specs.declared.entry.Kind.TheVariants.{Answer, Dropped, Denied, Other}
 
 abbrev pub kind_word : Kind → List ℕ
-kind_word Answer = codes "answer"
-kind_word Dropped = codes "dropped"
-kind_word Denied = codes "denied"
-kind_word Other = codes "other"
+kind_word k = name k
 
 -- an answer is read whole, up to the 65,535 bytes that an entry can hold
 abbrev pub entry_ending : Kind → List ℕ → Ending

@@ -1,5 +1,6 @@
 -- The ranges of the slot table that an answer gives, as a report lists them.
 use Rattle.std.specs.Prelude.{ℕ, List, [], ◌∷◌, ◌++◌, map, Ok, Err, codes, decimal, Result}
+use Rattle.std.specs.List.{flat_map}
 use Rattle.errors.specs.declared.redis_error.Refusal.{Refusal}
 use Rattle.node.specs.Address.{name_of}
 use Rattle.node.specs.declared.address.NodeAddress.{NodeAddress}
@@ -16,8 +17,7 @@ unfoldable pub range_line : Range → List ℕ
 range_line r = codes "range" ++ spaced (decimal r.start ∷ decimal r.end ∷ node_word r.primary ∷ map node_word r.replicas)
 
 abbrev pub range_lines : List Range → List ℕ
-range_lines [] = []
-range_lines (r ∷ rs) = range_line r ++ (10 ∷ range_lines rs)
+range_lines rs = flat_map (λ r. range_line r ++ (10 ∷ [])) rs
 
 abbrev pub table_lines : Result (List Range) Refusal → List ℕ
 table_lines (Ok rs) = range_lines rs

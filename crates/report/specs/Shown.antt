@@ -1,5 +1,6 @@
 -- How a report shows bytes: as themselves from 0x21 to 0x7E except `%`, any other as `%` and two hexadecimal digits, and none at all as `""`.
 use Rattle.std.specs.Prelude.{◌≡◌, ℕ, ◌+◌, ◌/◌, ◌%◌, Bool, cond, not, ◌&&◌, List, [], ◌∷◌, ◌++◌, Ok, Err, Result, ◌==◌, nat_le, nat_lt}
+use Rattle.std.specs.List.{flat_map}
 
 abbrev pub hex : ℕ → ℕ
 hex n = cond (nat_lt n 10) (48 + n) (55 + n)
@@ -11,8 +12,7 @@ abbrev pub byte_shown : ℕ → List ℕ
 byte_shown b = cond (as_itself b) (b ∷ []) (0x25 ∷ hex (b / 16) ∷ hex (b % 16) ∷ [])
 
 abbrev pub all_shown : List ℕ → List ℕ
-all_shown [] = []
-all_shown (b ∷ bs) = byte_shown b ++ all_shown bs
+all_shown bs = flat_map byte_shown bs
 
 abbrev pub shown : List ℕ → List ℕ
 shown [] = 0x22 ∷ 0x22 ∷ []

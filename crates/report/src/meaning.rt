@@ -1,31 +1,19 @@
-ghost use Rattle.std.specs.Prelude.{◌≡◌, [], ◌∷◌, ◌++◌, IfOk};
-ghost use Rattle.errors.specs.Endings.{refusal, retry};
-ghost use Rattle.errors.specs.Redirection.{named};
+ghost use Rattle.std.specs.Prelude.{◌≡◌, ℕ, suc, ◌<◌, ◌∷◌, ◌++◌, length, Some, IfOk};
+ghost use Rattle.errors.specs.Redirection.{redirect};
 ghost use Rattle.resp.specs.Told.{text_at};
-ghost use Rattle.report.specs.Explained.{kind_word, entry_ending, entry_error, code_word, method_word, redirect_word, entry_line, explained};
-ghost use Rattle.report.specs.Shown.{Added};
-ghost use Rattle.report.specs.Words.{address_word};
+ghost use Rattle.report.specs.Explained.{entry_ending, entry_error, code_word, sent_word, redirect_word, entry_line, lines, explained};
+ghost use Rattle.report.specs.Words.{word_shown, address_shown, or_dash};
 
-use crate::show::show;
-use crate::words::{host_port, number, word};
-use errors::{Answer, Ending, Redirect, ServerError, Target};
+use crate::show::Word;
+use crate::words::{Address, OrDash};
+use errors::{Answer, Ending, Redirect, ServerError};
 use resp::place::Place;
 use std::alloc::{AllocError, Global};
+use std::fmt;
 use tape::{Entry, Kind};
 
 // The most bytes that an entry can hold.
 const LONGEST: usize = 65535;
-
-fn kind_name(kind: Kind) -> &'static [u8]
-    ensures { result.now ≡ kind_word kind }
-{
-    match kind {
-        Kind::Answer => b"answer",
-        Kind::Dropped => b"dropped",
-        Kind::Denied => b"denied",
-        Kind::Other => b"other",
-    }
-}
 
 fn played(kind: Kind, bytes: &[u8]) -> Answer
     ensures ending { result.ending ≡ entry_ending kind bytes.now }
@@ -44,101 +32,94 @@ fn played(kind: Kind, bytes: &[u8]) -> Answer
 }
 
 // The code of the error whose text lies at the place.
-fn code(out: &mut Vec<u8>, bytes: &[u8], error: Option<Place>) -> Result<(), AllocError>
-    ensures { Added (32 ∷ code_word (text_at bytes.now error)) out.old.items out.new.items result }
+fn code(bytes: &[u8], error: Option<Place>) -> OrDash<Word<'_>>
+    ensures { or_dash word_shown result.0 ≡ Some (code_word (text_at bytes.now error)) }
 {
-    let Some(place) = error else {
-        return word(out, b"-");
-    };
-    let text = place.text(bytes);
-    let code = ServerError::read(text).code;
-    out.push(b' ')?;
-    show(out, code.text(text))
+    OrDash(error.map(|place| {
+        let text = place.text(bytes);
+        Word(ServerError::read(text).code.text(text))
+    }))
 }
 
-fn method(out: &mut Vec<u8>, ending: Ending) -> Result<(), AllocError>
-    ensures { Added (32 ∷ method_word (retry (refusal ending))) out.old.items out.new.items result }
+// The address that an error's text redirects to.
+fn target(text: &[u8]) -> Option<Address<'_>>
+    ensures { or_dash address_shown result ≡ Some (sent_word (redirect text.now)) }
 {
-    match ending.retry_method() {
-        None => word(out, b"-"),
-        Some(method) => word(out, method.name().as_bytes()),
-    }
-}
-
-// `host:port`, as the target names them in the text.
-fn address(out: &mut Vec<u8>, heap: Global, text: &[u8], target: Target) -> Result<(), AllocError>
-    ensures { Added (32 ∷ address_word (named text.now target)) out.old.items out.new.items result }
-{
-    host_port(out, heap, target.host.text(text), target.port)
+    let (Redirect::Moved(target) | Redirect::Ask(target)) = Redirect::read(text)?;
+    Some(Address {
+        host: target.host.text(text),
+        port: target.port,
+    })
 }
 
 // The redirect in the error whose text lies at the place.
-fn redirect(
-    out: &mut Vec<u8>,
-    heap: Global,
-    bytes: &[u8],
-    error: Option<Place>,
-) -> Result<(), AllocError>
-    ensures { Added (32 ∷ redirect_word (text_at bytes.now error)) out.old.items out.new.items result }
+fn redirect(bytes: &[u8], error: Option<Place>) -> OrDash<Address<'_>>
+    ensures { or_dash address_shown result.0 ≡ Some (redirect_word (text_at bytes.now error)) }
 {
-    let Some(place) = error else {
-        return word(out, b"-");
-    };
-    let text = place.text(bytes);
-    match Redirect::read(text) {
-        None => word(out, b"-"),
-        Some(Redirect::Moved(target)) => address(out, heap, text, target),
-        Some(Redirect::Ask(target)) => address(out, heap, text, target),
+    OrDash(error.and_then(|place| target(place.text(bytes))))
+}
+
+// What an entry of a tape means: `entry INDEX KIND ENDING CODE METHOD REDIRECT`.
+#[derive(Clone, Copy, Debug, PartialEq, Eq)]
+struct EntryLine<'a> {
+    index: u64,
+    kind: Kind,
+    bytes: &'a [u8],
+}
+
+impl fmt::Display for EntryLine<'_> {
+    ghost output = { λ l. Some (entry_line l.index l.kind l.bytes.now) };
+
+    fn fmt<W: fmt::Write>(&self, f: &mut fmt::Formatter<W>) -> fmt::Result {
+        let EntryLine { index, kind, bytes } = *self;
+        let Answer { ending, error } = played(kind, bytes);
+        let code = code(bytes, error);
+        let method = OrDash(ending.retry_method());
+        let redirect = redirect(bytes, error);
+        write!(
+            f,
+            "entry {index} {kind} {ending} {code} {method} {redirect}"
+        )
     }
 }
 
-// What the entry of a tape means: `entry INDEX KIND ENDING CODE METHOD REDIRECT`.
-fn entry_line(heap: Global, index: u64, kind: Kind, bytes: &[u8]) -> Result<Vec<u8>, AllocError>
-    ensures { IfOk result (λ v. v.items ≡ entry_line index kind bytes.now) }
+// The line of the entry at the front of a tape, and what stands behind the entry. What is cut off plays
+// dropped.
+fn front_line(index: u64, tape: &[u8]) -> (EntryLine<'_>, &[u8])
+    requires { 0 < length tape.now }
+    ensures line { (n : ℕ) →
+        entry_line result.0.index result.0.kind result.0.bytes.now ++ (10 ∷ lines n (suc index) result.1.now)
+        ≡ lines (suc n) index tape.now }
+    ensures shorter { length result.1.now < length tape.now }
 {
-    let answer = played(kind, bytes);
-    let mut out = Vec::new(heap);
-    out.extend_from_slice(b"entry")?;
-    number(&mut out, heap, index)?;
-    word(&mut out, kind_name(kind))?;
-    word(&mut out, answer.ending.name().as_bytes())?;
-    code(&mut out, bytes, answer.error)?;
-    method(&mut out, answer.ending)?;
-    redirect(&mut out, heap, bytes, answer.error)?;
-    Ok(out)
-}
-
-fn line(
-    out: &mut Vec<u8>,
-    heap: Global,
-    index: u64,
-    kind: Kind,
-    bytes: &[u8],
-) -> Result<(), AllocError>
-    ensures { Added (entry_line index kind bytes.now ++ (10 ∷ [])) out.old.items out.new.items result }
-{
-    let text = entry_line(heap, index, kind, bytes)?;
-    out.extend_from_slice(text.as_slice())?;
-    out.push(b'\n')?;
-    Ok(())
+    let Some(Entry { kind, bytes, len }) = Entry::read(tape) else {
+        return (
+            EntryLine {
+                index,
+                kind: Kind::Dropped,
+                bytes: b"",
+            },
+            b"",
+        );
+    };
+    let bytes = bytes.text(tape);
+    (EntryLine { index, kind, bytes }, &tape[len..])
 }
 
 // What each entry of the tape means, a line each.
 pub fn explain(heap: Global, tape: &[u8]) -> Result<Vec<u8>, AllocError>
     ensures { IfOk result (λ v. v.items ≡ explained tape.now) }
 {
-    let mut out = Vec::new(heap);
-    let mut at = 0;
-    let mut index: u64 = 0;
-    while at < tape.len() {
-        let rest = &tape[at..];
+    let mut lines = String::new(heap);
+
+    let mut rest = tape;
+    let mut index = 0;
+    while !rest.is_empty() {
+        // By hand: an iterator over the entries would need the same count, and a contract more.
         index += 1;
-        let Some(entry) = Entry::read(rest) else {
-            line(&mut out, heap, index, Kind::Dropped, b"")?;
-            return Ok(out);
-        };
-        line(&mut out, heap, index, entry.kind, entry.bytes.text(rest))?;
-        at += entry.len;
+        let (line, behind) = front_line(index, rest);
+        writeln!(lines, "{line}")?;
+        rest = behind;
     }
-    Ok(out)
+    Ok(lines.into_bytes())
 }

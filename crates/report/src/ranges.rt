@@ -1,52 +1,45 @@
-ghost use Rattle.std.specs.Prelude.{[], ◌∷◌, ◌++◌, map};
-ghost use Rattle.report.specs.Ranges.{node_word, range_line, range_lines, entry_ranges};
+ghost use Rattle.std.specs.Prelude.{◌≡◌, Some, map, OnErr};
+ghost use Rattle.report.specs.Ranges.{node_word, range_line, entry_ranges};
 ghost use Rattle.report.specs.Shown.{Added};
 ghost use Rattle.report.specs.Words.{spaced};
 ghost use Rattle.slot_map.specs.Range.{range_of};
 
-use crate::words::{host_port, number};
+use crate::words::Address;
 use node::NodeAddress;
 use slot_map::{SlotRange, parse_slots};
 use std::alloc::{AllocError, Global};
+use std::fmt;
 use tape::Kind;
 
-fn node(out: &mut Vec<u8>, heap: Global, node: &NodeAddress) -> Result<(), AllocError>
-    ensures { Added (32 ∷ node_word node.now) out.old.items out.new.items result }
-{
-    host_port(out, heap, node.host(), node.port())
-}
+// Nodes, each behind a blank.
+#[derive(Clone, Copy, Debug, PartialEq, Eq)]
+struct Nodes<'a>(&'a [NodeAddress]);
 
-fn nodes(out: &mut Vec<u8>, heap: Global, nodes: &[NodeAddress]) -> Result<(), AllocError>
-    ensures { Added (spaced (map node_word nodes.now)) out.old.items out.new.items result }
-{
-    for address in nodes {
-        node(out, heap, address)?;
+impl fmt::Display for Nodes<'_> {
+    ghost output = { λ nodes. Some (spaced (map node_word nodes.0.now)) };
+
+    fn fmt<W: fmt::Write>(&self, f: &mut fmt::Formatter<W>) -> fmt::Result {
+        for node in self.0 {
+            write!(f, " {}", Address::from(node))?;
+        }
+        Ok(())
     }
-    Ok(())
 }
 
 // `range START END PRIMARY REPLICA ..`
-fn range_line(out: &mut Vec<u8>, heap: Global, range: &SlotRange) -> Result<(), AllocError>
-    ensures { Added (range_line (range_of range.now) ++ (10 ∷ [])) out.old.items out.new.items result }
-{
-    let start = u64::from(range.start());
-    let end = u64::from(range.end());
-    out.extend_from_slice(b"range")?;
-    number(out, heap, start)?;
-    number(out, heap, end)?;
-    node(out, heap, range.primary())?;
-    nodes(out, heap, range.replicas())?;
-    out.push(b'\n')?;
-    Ok(())
-}
+#[derive(Clone, Copy)]
+struct RangeLine<'a>(&'a SlotRange);
 
-fn range_lines(out: &mut Vec<u8>, heap: Global, ranges: &[SlotRange]) -> Result<(), AllocError>
-    ensures { Added (range_lines (map range_of ranges.now)) out.old.items out.new.items result }
-{
-    for range in ranges {
-        range_line(out, heap, range)?;
+impl fmt::Display for RangeLine<'_> {
+    ghost output = { λ line. Some (range_line (range_of line.0.now)) };
+
+    fn fmt<W: fmt::Write>(&self, f: &mut fmt::Formatter<W>) -> fmt::Result {
+        let start = self.0.start();
+        let end = self.0.end();
+        let primary = Address::from(self.0.primary());
+        let replicas = Nodes(self.0.replicas());
+        write!(f, "range {start} {end} {primary}{replicas}")
     }
-    Ok(())
 }
 
 // The ranges of the slot table that the entry's bytes give, a line each. A tape does not say which host
@@ -57,13 +50,19 @@ pub fn entry_ranges(
     kind: Kind,
     bytes: &[u8],
 ) -> Result<(), AllocError>
-    ensures { Added (entry_ranges kind bytes.now) out.old.items out.new.items result }
+    ensures added { Added (entry_ranges kind bytes.now) out.old.items out.new.items result }
+    ensures same { OnErr result (out.new.items ≡ out.old.items) }
 {
-    match kind {
-        Kind::Answer => match parse_slots(bytes, b"-") {
-            Ok(slots) => range_lines(out, heap, slots.ranges()),
-            Err(_) => Ok(()),
-        },
-        Kind::Dropped | Kind::Denied | Kind::Other => Ok(()),
+    let Kind::Answer = kind else {
+        return Ok(());
+    };
+    let Ok(slots) = parse_slots(bytes, b"-") else {
+        return Ok(());
+    };
+    // One text first, so that a failure of memory adds nothing.
+    let mut lines = String::new(heap);
+    for range in slots.ranges() {
+        writeln!(lines, "{}", RangeLine(range))?;
     }
+    out.extend_from_slice(lines.as_bytes())
 }

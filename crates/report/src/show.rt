@@ -1,47 +1,52 @@
-ghost use Rattle.std.specs.Prelude.{◌≡◌, ◌<◌};
-ghost use Rattle.report.specs.Shown.{hex as hex_of, as_itself, byte_shown, all_shown, shown, Added};
+ghost use Rattle.std.specs.Prelude.{Some};
+ghost use Rattle.report.specs.Shown.{byte_shown, all_shown, shown};
 
-use std::alloc::AllocError;
+use std::fmt;
 
-fn hex(n: u8) -> u8
-    requires { n < 16 }
-    ensures { result ≡ hex_of n }
-{
-    if n < 10 { b'0' + n } else { b'A' - 10 + n }
-}
+// A byte as a report shows it.
+#[derive(Clone, Copy, Debug, PartialEq, Eq)]
+struct Byte(u8);
 
-fn is_itself(b: u8) -> bool
-    ensures { result ≡ as_itself b }
-{
-    b >= 0x21 && b <= 0x7e && b != b'%'
-}
+impl fmt::Display for Byte {
+    ghost output = { λ b. Some (byte_shown b.0) };
 
-fn show_byte(out: &mut Vec<u8>, b: u8) -> Result<(), AllocError>
-    ensures { Added (byte_shown b) out.old.items out.new.items result }
-{
-    if is_itself(b) {
-        out.push(b)?;
-        return Ok(());
+    fn fmt<W: fmt::Write>(&self, f: &mut fmt::Formatter<W>) -> fmt::Result {
+        let b = self.0;
+        if b.is_ascii_graphic() && b != b'%' {
+            f.write_char(char::from(b))
+        } else {
+            write!(f, "%{b:02X}")
+        }
     }
-    out.extend_from_slice(&[b'%', hex(b / 16), hex(b % 16)])
 }
 
-// The bytes, each as a report shows it.
-pub(crate) fn show_all(out: &mut Vec<u8>, bytes: &[u8]) -> Result<(), AllocError>
-    ensures { Added (all_shown bytes.now) out.old.items out.new.items result }
-{
-    for b in bytes {
-        show_byte(out, *b)?;
+// Bytes, each as a report shows it.
+#[derive(Clone, Copy, Debug, PartialEq, Eq)]
+pub(crate) struct Bytes<'a>(pub(crate) &'a [u8]);
+
+impl fmt::Display for Bytes<'_> {
+    ghost output = { λ s. Some (all_shown s.0.now) };
+
+    fn fmt<W: fmt::Write>(&self, f: &mut fmt::Formatter<W>) -> fmt::Result {
+        for b in self.0 {
+            Byte(*b).fmt(f)?;
+        }
+        Ok(())
     }
-    Ok(())
 }
 
-// The bytes as a word of a report.
-pub(crate) fn show(out: &mut Vec<u8>, bytes: &[u8]) -> Result<(), AllocError>
-    ensures { Added (shown bytes.now) out.old.items out.new.items result }
-{
-    if bytes.is_empty() {
-        return out.extend_from_slice(b"\"\"");
+// Bytes as a word of a report, which is never empty.
+#[derive(Clone, Copy, Debug, PartialEq, Eq)]
+pub(crate) struct Word<'a>(pub(crate) &'a [u8]);
+
+impl fmt::Display for Word<'_> {
+    ghost output = { λ w. Some (shown w.0.now) };
+
+    fn fmt<W: fmt::Write>(&self, f: &mut fmt::Formatter<W>) -> fmt::Result {
+        if self.0.is_empty() {
+            f.write_str("\"\"")
+        } else {
+            Bytes(self.0).fmt(f)
+        }
     }
-    show_all(out, bytes)
 }

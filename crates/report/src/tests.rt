@@ -11,7 +11,10 @@ fn lists_the_ranges_of_an_answer(rt: HostRuntime) -> Result<(), AllocError> {
     let heap = rt.alloc();
     let mut out = Vec::new(heap);
     entry_ranges(&mut out, heap, Kind::Answer, ANSWER)?;
-    assert!(rt; out.as_slice() == b"range 0 5 a:1 b:2\nrange 10 20 -:3\n".as_slice());
+    assert_eq!(rt;
+        out.as_slice(),
+        b"range 0 5 a:1 b:2\nrange 10 20 -:3\n".as_slice()
+    );
     Ok(())
 }
 

@@ -1,37 +1,48 @@
-ghost use Rattle.std.specs.Prelude.{◌∷◌, decimal};
-ghost use Rattle.report.specs.Shown.{Added};
-ghost use Rattle.report.specs.Words.{address_word};
+ghost use Rattle.std.specs.Prelude.{◌≡◌, Some};
+ghost use Rattle.node.specs.Address.{name_of};
+ghost use Rattle.report.specs.Words.{address_word, address_shown, or_dash};
 
-use crate::show::show_all;
-use std::alloc::{AllocError, Global};
+use crate::show::Bytes;
+use node::NodeAddress;
+use std::fmt;
 
-// A blank, and the text as it is.
-pub(crate) fn word(out: &mut Vec<u8>, text: &[u8]) -> Result<(), AllocError>
-    ensures { Added (32 ∷ text.now) out.old.items out.new.items result }
-{
-    out.push(b' ')?;
-    out.extend_from_slice(text)
+// `host:port`.
+#[derive(Clone, Copy, Debug, PartialEq, Eq)]
+pub(crate) struct Address<'a> {
+    pub(crate) host: &'a [u8],
+    pub(crate) port: u16,
 }
 
-pub(crate) fn number(out: &mut Vec<u8>, heap: Global, n: u64) -> Result<(), AllocError>
-    ensures { Added (32 ∷ decimal n) out.old.items out.new.items result }
-{
-    let text = n.to_string(heap)?;
-    word(out, text.as_bytes())
+impl<'a> From<&'a NodeAddress> for Address<'a> {
+    ghost from_gives = { λ node address. address_shown address ≡ Some (address_word (name_of node.now)) };
+
+    fn from(node: &'a NodeAddress) -> Address<'a> {
+        Address {
+            host: node.host(),
+            port: node.port(),
+        }
+    }
 }
 
-// ` host:port`.
-pub(crate) fn host_port(
-    out: &mut Vec<u8>,
-    heap: Global,
-    host: &[u8],
-    port: u16,
-) -> Result<(), AllocError>
-    ensures { Added (32 ∷ address_word (record { host = host.entry.now; port = port })) out.old.items out.new.items result }
-{
-    let port = port.to_string(heap)?;
-    out.push(b' ')?;
-    show_all(out, host)?;
-    out.push(b':')?;
-    out.extend_from_slice(port.as_bytes())
+impl fmt::Display for Address<'_> {
+    ghost output = { address_shown };
+
+    fn fmt<W: fmt::Write>(&self, f: &mut fmt::Formatter<W>) -> fmt::Result {
+        write!(f, "{}:{}", Bytes(self.host), self.port)
+    }
+}
+
+// A word, or `-` where there is none.
+#[derive(Clone, Copy, Debug, PartialEq, Eq)]
+pub(crate) struct OrDash<T>(pub(crate) Option<T>);
+
+impl<T: fmt::Display> fmt::Display for OrDash<T> {
+    ghost output = { λ w. or_dash T.output w.0 };
+
+    fn fmt<W: fmt::Write>(&self, f: &mut fmt::Formatter<W>) -> fmt::Result {
+        match &self.0 {
+            None => f.write_str("-"),
+            Some(word) => word.fmt(f),
+        }
+    }
 }

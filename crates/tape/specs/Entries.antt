@@ -1,5 +1,5 @@
 -- The entries of a tape.
-use Rattle.std.specs.Prelude.{ℕ, ◌+◌, ◌*◌, ◌<◌, ◌≤◌, cond, List, [], ◌∷◌, length, take, drop, Some, None, Option, ◌==◌, nat_le}
+use Rattle.std.specs.Prelude.{ℕ, ◌+◌, ◌*◌, ◌<◌, ◌≤◌, cond, List, [], ◌∷◌, length, take, drop, Some, None, Option, codes, ◌==◌, nat_le}
 use Rattle.resp.specs.Read.{Read, read}
 use Rattle.resp.specs.Told.{part, Inside}
 use Rattle.tape.specs.declared.entry.Entry.{Entry}
@@ -8,6 +8,13 @@ use Rattle.tape.specs.declared.entry.Kind.TheVariants.{Answer, Dropped, Denied, 
 
 abbrev pub kind : ℕ → Kind
 kind b = cond (b == 0) Answer (cond (b == 1) Dropped (cond (b == 2) Denied Other))
+
+-- as a report names it
+abbrev pub name : Kind → List ℕ
+name Answer = codes "answer"
+name Dropped = codes "dropped"
+name Denied = codes "denied"
+name Other = codes "other"
 
 pub record Played : Type 0 where
   pub plays : Kind

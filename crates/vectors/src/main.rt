@@ -9,11 +9,12 @@ use resp::value;
 use std::alloc::{AllocError, Global};
 use std::io::{BufRead, BufReader};
 
-// Fronts of a long answer are tried at every so many bytes.
+// Fronts of an answer longer than this are tried at every so many bytes.
 const SHORT: usize = 4096;
 
 const STEP: usize = 97;
 
+// By hand: what is no digit goes on counting as 0, where the library's decoding ends with an error.
 fn digit(c: u8) -> u8 {
     match c {
         b'0'..=b'9' => c - b'0',
@@ -23,60 +24,36 @@ fn digit(c: u8) -> u8 {
 }
 
 fn decoded(heap: Global, hex: &[u8]) -> Result<Vec<u8>, AllocError> {
-    let mut bytes = Vec::new(heap);
-    let mut high: Option<u8> = None;
-    for c in hex {
-        let low = digit(*c);
-        match high {
-            None => high = Some(low),
-            Some(h) => {
-                bytes.push((h & 15) << 4 | (low & 15))?;
-                high = None;
-            }
-        }
-    }
-    Ok(bytes)
+    let (pairs, _) = hex.as_chunks::<2>();
+    pairs
+        .iter()
+        .map(|[high, low]| digit(*high) << 4 | digit(*low))
+        .collect(heap)
 }
 
 fn reads_whole(bytes: &[u8], depth: u32) -> bool {
-    match value::read(bytes, depth) {
-        Some(walk) => walk.len == bytes.len(),
-        None => false,
-    }
+    value::read(bytes, depth).is_some_and(|walk| walk.len == bytes.len())
 }
 
 fn depth(bytes: &[u8]) -> Option<u32> {
-    for d in 0..65 {
-        if reads_whole(bytes, d) {
-            return Some(d);
-        }
-    }
-    None
+    (0..65).find(|depth| reads_whole(bytes, *depth))
 }
 
 // How many proper fronts were tried, and how many of them were read whole.
 fn fronts(bytes: &[u8]) -> (usize, usize) {
-    let mut tried: usize = 0;
-    let mut whole: usize = 0;
-    for n in 0..bytes.len() {
-        if bytes.len() > SHORT && n % STEP != 0 {
-            continue;
-        }
-        tried = tried.wrapping_add(1);
-        if reads_whole(&bytes[0..n], 64) {
-            whole = whole.wrapping_add(1);
-        }
-    }
+    let step = if bytes.len() > SHORT { STEP } else { 1 };
+    let tried = bytes.len().div_ceil(step);
+    let whole = (0..bytes.len())
+        .step_by(step)
+        .filter(|n| reads_whole(&bytes[..*n], 64))
+        .count();
     (tried, whole)
 }
 
 // The answer as the one entry of a tape.
 fn tape(heap: Global, bytes: &[u8]) -> Result<Vec<u8>, AllocError> {
-    let size = bytes.len();
-    let mut tape = Vec::new(heap);
-    tape.push(0)?;
-    tape.push((size & 255) as u8)?;
-    tape.push((size >> 8 & 255) as u8)?;
+    let [low, high, ..] = bytes.len().to_le_bytes();
+    let mut tape = vec![in heap; 0, low, high]?;
     tape.extend_from_slice(bytes)?;
     Ok(tape)
 }
@@ -89,8 +66,9 @@ fn run(rt: &HostRuntime, line: &str) -> anyhow::Result<()> {
     let bytes = decoded(heap, hex.as_bytes())?;
     let (tried, whole) = fronts(bytes.as_slice());
     let meaning = explain(heap, tape(heap, bytes.as_slice())?.as_slice())?;
+    // Two formats: a number and `-` have no type in common that prints.
     match depth(bytes.as_slice()) {
-        Some(d) => print!(rt; "{name} {d} {tried} {whole} ")?,
+        Some(depth) => print!(rt; "{name} {depth} {tried} {whole} ")?,
         None => print!(rt; "{name} - {tried} {whole} ")?,
     }
     rt.print(std::str::from_utf8(meaning.as_slice())?)?;

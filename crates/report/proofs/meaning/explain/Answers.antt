@@ -1,29 +1,22 @@
-use Rattle.std.proofs.Common.{length, vec_items, ap, ◌∙◌, arith, length-drop}
-use Rattle.std.proofs.lemmas.List.{take_rest}
-use Rattle.report.specs.Explained.{explained}
-use Rattle.report.proofs.Entries.{lines_done, line_cut, line_more}
+use Rattle.std.proofs.Common.{◌≡◌, ◌+◌, ◌-◌, suc, length, ◌++◌, string_bytes, sym, ap, ◌∙◌, arith}
+use Rattle.report.specs.Explained.{entry_line, lines, explained}
+use Rattle.report.proofs.Lines.{line_written}
 use Rattle.report.proofs.meaning.explain.Goals as goal
 
-pub returns-in_default : goal.returns-in_default
-returns-in_default c =
+pub loop-rest-preserved : goal.loop-rest-preserved
+loop-rest-preserved c =
     let bs = c.args.tape.now in
-    let inv = c.loop-at.invariant in
-    c.in_ok-line.ensures
-    ∙ line_cut bs c.loop-at.index c.loop-at.at (vec_items c.loop-at.out) (explained bs) inv.2 inv.0 c.loop-at-test.true c.in_default.ensures.value
-
-pub loop-at-preserved : goal.loop-at-preserved
-loop-at-preserved c =
-    let bs = c.args.tape.now in
-    let inv = c.loop-at.invariant in
-    let found = c.in-Some.ensures in
-    let left = ap length (take_rest bs c.loop-at.at) ∙ length-drop c.loop-at.at bs in (
-      omega (arith, found.within.1),
-      omega (arith, left, found.within.2),
-      line_more bs c.loop-at.index c.loop-at.at (vec_items c.loop-at.out) (explained bs) inv.2 inv.0 c.loop-at-test.true
-          (vec_items c.line-in-loop-at.new.out) c.text.result.now c.in-Some.entry found.value c.text.ensures c.in_ok-line-2.ensures,
-    )
-
-pub returns : goal.returns
-returns c =
-    let bs = c.args.tape.now in
-    lines_done bs c.loop-at.index c.loop-at.at (vec_items c.loop-at.out) (explained bs) c.loop-at.invariant.2 c.loop-at-test.false
+    let i = c.loop-rest.index in
+    let n = length bs - (i + 1) in
+    let line = c.front_line.result.0 in
+    let rest = c.loop-rest.rest.now in
+    let old = string_bytes c.loop-rest.lines in
+    let fuel : length bs - i ≡ suc n = omega (arith, c.front_line.ensures.shorter) in
+    let next : i + 1 + 1 ≡ suc (i + 1) = omega arith in
+    let so_far = ap (λ k. old ++ lines k (i + 1) rest) (sym fuel) ∙ c.loop-rest.invariant.so_far in
+    record {
+      few = omega (arith, c.front_line.ensures.shorter);
+      so_far = ap (λ k. string_bytes c.writeln.new.self ++ lines n k c.front_line.result.1.now) next
+          ∙ line_written old (entry_line line.index line.kind line.bytes.now) (string_bytes c.writeln.new.self) (lines n (suc (i + 1)) c.front_line.result.1.now) (lines (suc n) (i + 1) rest) (explained bs)
+          c.in_ok-writeln.ensures.bytes (c.front_line.ensures.line n) so_far;
+    }

@@ -1,34 +1,37 @@
-use Rattle.std.proofs.Common.{◌≡◌, ℕ, ◌⊎◌, List, [], ◌++◌, vec_items, sym, ap, ◌∙◌, subst, inl, inr, append-nil}
+use Rattle.std.proofs.Common.{◌≡◌, ◌≢◌, ℕ, List, [], ◌++◌, map, sym, refl, ap, ◌∙◌, subst, append-nil}
+use Rattle.std.proofs.lemmas.List.{take_all}
 use Rattle.report.specs.Ranges.{range_lines, table_lines, entry_ranges}
 use Rattle.report.specs.Shown.{Added}
+use Rattle.report.proofs.Lines.{extended}
 use Rattle.report.proofs.ranges.entry_ranges.Goals as goal
+use Rattle.slot_map.specs.Range.{range_of}
 use Rattle.tape.specs.declared.entry.Kind.{Kind}
-use Rattle.tape.specs.declared.entry.Kind.TheVariants.{Dropped, Denied, Other}
+use Rattle.tape.specs.declared.entry.Kind.TheVariants.{Answer, Dropped, Denied, Other}
 
-none : (k : Kind) (bs : List ℕ) → (k ≡ Dropped) ⊎ ((k ≡ Denied) ⊎ (k ≡ Other)) → entry_ranges k bs ≡ []
+none : (k : Kind) (bs : List ℕ) → k ≢ Answer → entry_ranges k bs ≡ []
 unfolding entry_ranges
-none k bs (inl e) = ap (λ x. entry_ranges x bs) e
-none k bs (inr (inl e)) = ap (λ x. entry_ranges x bs) e
-none k bs (inr (inr e)) = ap (λ x. entry_ranges x bs) e
+none Answer bs other = absurd (other refl)
+none Dropped bs other = refl
+none Denied bs other = refl
+none Other bs other = refl
 
 unchanged : (out text : List ℕ) → text ≡ [] → out ≡ out ++ text
 unchanged out text e = sym (append-nil out) ∙ ap (λ l. out ++ l) (sym e)
 
-pub returns-in-Ok : goal.returns-in-Ok
-unfolding entry_ranges
-returns-in-Ok c =
-    let bs = c.args.bytes.now in
-    let text = ap range_lines c.ranges-in-Ok.ensures ∙ ap table_lines c.in-Ok.ensures ∙ ap (λ k. entry_ranges k bs) (sym c.in-Answer.is) in
-    subst (λ l. Added l (vec_items c.args.out.now) (vec_items c.range_lines.new.out) c.range_lines.result) text c.range_lines.ensures
+pub returns-in_default-clause-added : goal.returns-in_default-clause-added
+returns-in_default-clause-added c = unchanged _ _ (none c.args.kind c.args.bytes.now c.in_default.not-Answer)
 
-pub returns-in-Err : goal.returns-in-Err
+pub returns-in_default-parse_slots-clause-added : goal.returns-in_default-parse_slots-clause-added
 unfolding entry_ranges
-returns-in-Err c =
-    let bs = c.args.bytes.now in
-    unchanged (vec_items c.args.out.now) (entry_ranges c.args.kind bs)
-    (ap (λ k. entry_ranges k bs) c.in-Answer.is ∙ ap table_lines (sym c.in-Err.ensures))
+returns-in_default-parse_slots-clause-added c =
+    unchanged _ _ (ap (λ k. entry_ranges k c.args.bytes.now) c.in-Answer.is ∙ ap table_lines (sym c.in_default-parse_slots.ensures))
 
-pub returns-in-Dropped : goal.returns-in-Dropped
-returns-in-Dropped c =
-    let bs = c.args.bytes.now in
-    unchanged (vec_items c.args.out.now) (entry_ranges c.args.kind bs) (none c.args.kind bs c.in-Dropped.is)
+pub returns-clause-added : goal.returns-clause-added
+unfolding entry_ranges
+returns-clause-added c =
+    let out = c.args.out.now.items in
+    let new = c.extend_from_slice.new.self.items in
+    let all = take_all c.loop-range.range-index c.ranges-range-items.result.now c.loop-range-test.false in
+    let text = c.as_bytes.ensures.value ∙ c.loop-range.invariant ∙ ap (λ l. range_lines (map range_of l)) all ∙ ap range_lines c.ranges-range-items.ensures
+    ∙ ap table_lines c.in-Ok.ensures ∙ ap (λ k. entry_ranges k c.args.bytes.now) (sym c.in-Answer.is) in
+    subst (λ l. Added l out new c.extend_from_slice.result) text (extended c.as_bytes.result.now out new c.extend_from_slice.result c.extend_from_slice.ensures.items)

@@ -1,15 +1,10 @@
--- Where a text's detail and its words lie.
-use Rattle.std.proofs.Common.{◌≡◌, ℕ, ◌+◌, ◌-◌, ◌≤◌, List, length, take, drop, Some, None, Option, sym, refl, ap, ◌∙◌, subst, arith, length-drop}
+-- Where a text's words lie.
+use Rattle.std.proofs.Common.{◌≡◌, ℕ, ◌+◌, ◌-◌, ◌≤◌, List, length, take, drop, sym, ap, ◌∙◌, subst, arith, length-drop}
 use Rattle.std.proofs.lemmas.List.{drop-drop, take_rest}
 use Rattle.std.proofs.lemmas.Str.Ascii.{trim_ascii_start_is}
-use Rattle.std.specs.Option.{option_map}
 use Rattle.std.specs.Str.{IsTrimAsciiStart}
-use Rattle.resp.specs.Told.{part, text_at}
+use Rattle.resp.specs.Told.{part}
 use Rattle.errors.specs.Words.{white, until, unpadded, first_word, behind_word}
-
-pub detail_told : (t : List ℕ) (o : Option ℕ) → text_at t (option_map (λ i. record { start = i + 1; end = length t }) o) ≡ option_map (λ i. drop (i + 1) t) o
-detail_told t None = refl
-detail_told t (Some i) = ap Some (take_rest t (i + 1))
 
 -- a word by the places where it begins and ends
 module _ (bs : List ℕ) (at n : ℕ) (rest : List ℕ) (h : at ≤ length bs) (trimmed : IsTrimAsciiStart (take (length bs - at) (drop at bs)) rest) (long : n ≡ until white rest) where

@@ -1,7 +1,7 @@
 -- A command is read just where the bytes stand for one.
 use Rattle.std.proofs.Common.{◌≡◌, ℕ, ◌<◌, ◌≤◌, Bool, true, false, cond, ◌&&◌, eqb, ltb, leb, List, [], ◌∷◌, length, Some, None, Option, sym, refl, ap, ◌∙◌, subst, append-nil, arith}
 use Rattle.std.proofs.lemmas.List.{nil_from_length}
-use Rattle.std.proofs.lemmas.Bool.{eqb-true, leb-true, ltb-true, lt-ltb, le-leb, lt-leb, and_parts}
+use Rattle.std.proofs.lemmas.Bool.{eqb-true, leb-true, ltb-true, lt-ltb, le-leb, and_parts}
 use Rattle.resp.proofs.Readings.{value_sound, value_complete}
 use Rattle.resp.specs.Command.{bulks, Commands, consed, words, lawful, elements_of, alone, command, Told, Commanded}
 use Rattle.resp.specs.Read.{Read, read}
@@ -94,6 +94,3 @@ commanded bs r told = go (command bs) refl told
 
 pub told_short : (bs : List ℕ) (r : Option Command) → length bs ≤ 16384 → Told bs (alone (value 1 bs)) r → Told bs (command bs) r
 told_short bs r h t = rw (le-leb (length bs) 16384 h) t
-
-pub told_long : (bs : List ℕ) → 16384 < length bs → Told bs (command bs) None
-told_long bs h = rw (lt-leb (length bs) 16384 h) refl

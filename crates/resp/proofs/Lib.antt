@@ -6,7 +6,6 @@ pub mod Walks
 pub mod Standings
 pub mod Readings
 pub mod Stood
-pub mod Whole
 pub mod Commands
 pub mod Framed
 pub mod Writings

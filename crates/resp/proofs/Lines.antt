@@ -2,7 +2,7 @@
 use Rattle.std.proofs.Common.{◌≡◌, ℕ, zero, suc, ◌+◌, ◌<◌, ◌≤◌, Bool, true, false, cond, List, [], ◌∷◌, ◌++◌, length, get_or, take, drop, Some, None, refl, sym, ap, ◌∙◌, arith, length-drop, length-append}
 use Rattle.std.proofs.Math.Numerals.{one-add}
 use Rattle.std.proofs.lemmas.Bool.Decides.{nat_tests}
-use Rattle.std.proofs.lemmas.List.{drop-drop, drop_all}
+use Rattle.std.proofs.lemmas.List.{drop-drop}
 use Rattle.std.proofs.lemmas.Bool.{false≢true, false_from_ne_true}
 use Rattle.std.specs.Bool.{then_some}
 use Rattle.std.specs.List.{position, position_or_len}
@@ -75,10 +75,6 @@ module _ (xs ys : List ℕ) where
 
   pub no_break : None ≡ position breaks xs → IsFirstByte (is_byte2 13 10) ys None → plain (xs ++ ys) ≡ length (xs ++ ys)
   no_break e h = omega (arith, plain_behind xs ys (none_near e), plain_all ys h, length-append xs ys)
-
-pub no_line : (bs : List ℕ) → plain bs ≡ length bs → cut bs None ≡ line bs
-no_line bs all =
-    open_cut bs (plain bs) (ap (λ n. ended (drop n bs)) all ∙ ap ended (drop_all (length bs) bs (omega arith)))
 
 module _ (bs : List ℕ) (n : ℕ) (found : n ≡ plain bs) (b : Bool) (e : b ≡ ended (drop n bs)) where
   pub line_cut : cut bs (then_some b n) ≡ line bs

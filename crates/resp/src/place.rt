@@ -2,6 +2,7 @@ ghost use Rattle.std.specs.Prelude.{◌≡◌, ℕ, List, ◌-◌, ◌^◌, ◌<
 ghost use Rattle.resp.specs.Told.{part, further, Inside};
 
 // A part of some bytes: those from `start` up to below `end`.
+// Numbers, and no slice: the memory of an answer is written over while its places are still of use.
 #[derive(Clone, Copy, Debug, PartialEq, Eq)]
 pub struct Place {
     pub start: usize,

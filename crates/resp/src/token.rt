@@ -2,7 +2,7 @@ ghost use Rattle.std.specs.Prelude.{◌≡◌, ◌∷◌};
 ghost use Rattle.resp.specs.Reading.{head as head_of, minus_one, size as size_of};
 ghost use Rattle.resp.specs.Told.{told, Tells, Texted, Within, told_size, Sized};
 
-use crate::line::{is_ended, line};
+use crate::line::{is_ended, line, text_line};
 use crate::number::{integer, natural};
 use crate::place::{Head, Place, Size, Token};
 
@@ -40,7 +40,7 @@ fn text<K: FnOnce(Place) -> Head>(rest: &[u8], kind: K) -> Option<Token>
     requires { K.IsAlwaysCallable kind }
     ensures { Texted (K.post kind) rest.now result }
 {
-    let n = line(rest)?;
+    let n = text_line(rest)?;
     let head = kind(Place {
         start: 1,
         end: n + 1,

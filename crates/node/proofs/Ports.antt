@@ -45,3 +45,19 @@ as_port ds (Err e) first so = sym (no_port ds (λ digits some small. so (digits,
 pub parsed_port : {E : Type 0} (ds text : List ℕ) (r : Result ℕ E) → 0x30 < get_or ds 0 0 → text ≡ ds → ParsesUnsigned 16 10 text r → result_ok r ≡ port_of ds
 parsed_port {E} ds text r first same h =
     as_port ds r first (parse_plain own {E = E} 16 ds r (subst (λ t. ParsesUnsigned 16 10 t r) same h) (λ plus. omega (arith, plus)))
+
+-- six digits or more, of which the first is no zero, write more than a port
+number_long : (ds : List ℕ) → 5 < length ds → 0x30 < get_or ds 0 0 → 65535 < number 0 ds
+number_long [] long first = absurd (omega arith)
+number_long (a ∷ []) long first = absurd (omega arith)
+number_long (a ∷ b ∷ []) long first = absurd (omega arith)
+number_long (a ∷ b ∷ c ∷ []) long first = absurd (omega arith)
+number_long (a ∷ b ∷ c ∷ d ∷ []) long first = absurd (omega arith)
+number_long (a ∷ b ∷ c ∷ d ∷ e ∷ []) long first = absurd (omega arith)
+number_long (a ∷ b ∷ c ∷ d ∷ e ∷ f ∷ ds) long first =
+    let n : ℕ = 10 * (10 * (10 * (10 * (10 * (10 * 0 + (a - 0x30)) + (b - 0x30)) + (c - 0x30)) + (d - 0x30)) + (e - 0x30)) + (f - 0x30) in
+    let same : number 0 (a ∷ b ∷ c ∷ d ∷ e ∷ f ∷ ds) ≡ number n ds = refl in
+    omega (arith, same, number_grows n ds)
+
+pub too_many_digits : (ds : List ℕ) → 5 < length ds → 0x30 < get_or ds 0 0 → port_of ds ≡ None
+too_many_digits ds long first = no_port ds (λ digits some small. omega (arith, number_long ds long first))

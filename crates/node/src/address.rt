@@ -9,7 +9,7 @@ mod order;
 
 pub use order::{comparison_is_the_order, equality_is_sameness, order_is_total};
 
-#[derive(Clone, Copy, Debug, PartialEq, Eq, PartialOrd, Ord)]
+#[derive(Clone, Copy, Debug)]
 pub struct NodeAddress {
     host: ByteKey,
     port: u16,

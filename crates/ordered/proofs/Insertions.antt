@@ -1,10 +1,11 @@
 -- What an insertion leaves of a slice whose first n entries are a table.
 use Rattle.std.proofs.Common.{◌≡◌, ℕ, ◌+◌, ◌<◌, List, ◌∷◌, ◌++◌, length, get_or, take, drop, set, Some, None, Ok, Err, Ordering, sym, ap, ◌∙◌, arith}
-use Rattle.std.specs.List.{between, copy_within}
+use Rattle.std.specs.List.{between}
 use Rattle.std.proofs.lemmas.List.Edits.{length-insert}
 use Rattle.std.proofs.lemmas.List.{append_assoc, length-set, length-take-le, take-append-drop, take-take, get_or-take, set-append_left}
 use Rattle.std.proofs.lemmas.Slice.{between_is}
 use Rattle.ordered.specs.Edits.{Table, Inserted}
+use Rattle.ordered.specs.Moves.{moved_up}
 use Rattle.ordered.specs.Table.{put, Found}
 use Rattle.std.specs.Cmp.{IsTotalOrder}
 use Rattle.ordered.proofs.Moves.{up_set}
@@ -25,13 +26,13 @@ module _ {E K : Type 0} (key : E → K) (rank : K → K → Ordering) (total : I
         changed_put key rank e total (take n old) table.1,
       )
 
-  pub added : (m i : ℕ) (moved : List E) → m ≡ n → m < length old → Found key rank (take n old) (key e) (Err i) → moved ≡ copy_within old i m (i + 1) → Inserted key rank e old n (set moved i e) (m + 1) (Ok None)
+  pub added : (m i : ℕ) (moved : List E) → m ≡ n → m < length old → Found key rank (take n old) (key e) (Err i) → moved ≡ moved_up i m old → Inserted key rank e old n (set moved i e) (m + 1) (Ok None)
   added m i moved same l f up =
       let is = put_absent key rank e (take n old) i f.0 f.1 f.2 in
       let parts : put key rank e (take n old) ≡ take i old ++ (e ∷ between i m old) = is ∙ (λ k. take-take i n old (omega (arith, long, f.0)) k ++ (e ∷ sym (between_is old i n) k)) ∙ ap (λ j. take i old ++ (e ∷ between i j old)) (sym same) in (
         sym f.3,
         sym (ap length is ∙ length-insert (take n old) i e f.0 ∙ ap (λ k. k + 1) (long ∙ sym same)),
         omega arith,
-        ap (λ ys. set ys i e) up ∙ up_set old i m e (omega (arith, long, f.0)) l ∙ sym (append_assoc (take i old) (e ∷ between i m old) (drop (m + 1) old)) ∙ ap (λ ys. ys ++ drop (m + 1) old) (sym parts),
+        ap (λ ys. set ys i e) up ∙ up_set old i m e (omega (arith, long, f.0)) ∙ sym (append_assoc (take i old) (e ∷ between i m old) (drop (m + 1) old)) ∙ ap (λ ys. ys ++ drop (m + 1) old) (sym parts),
         changed_put key rank e total (take n old) table.1,
       )

@@ -1,5 +1,5 @@
 -- Where the library's search ends in a table.
-use Rattle.std.proofs.Common.{◌≡◌, ℕ, ◌<◌, ◌≤◌, true, false, List, length, get_or, Ok, Err, Result, Ordering, Less, Equal, Greater, refl, ap, inl, inr, true≢false, arith}
+use Rattle.std.proofs.Common.{◌≡◌, ℕ, ◌<◌, ◌≤◌, true, false, List, length, get_or, Ok, Err, Result, Ordering, Less, Equal, Greater, refl, ap, subst, inl, inr, true≢false, arith}
 use Rattle.std.proofs.lemmas.Bool.{cases_eq}
 use Rattle.std.specs.Cmp.{IsTotalOrder}
 use Rattle.std.specs.List.Sorted.{IsSearchInRange, IsBinarySearchResult, IsNonDecreasingBy}
@@ -39,3 +39,10 @@ module _ {E K : Type 0} (key : E → K) (rank : K → K → Ordering) (total : I
   searched (Err i) within parted =
       let parts = parted rises in
       (within, parts.0, parts.1, lookup_absent key rank k xs i parts.0 parts.1)
+
+  -- so also where a list that is this one was searched, and the answer was handed on
+  pub searched_alike : (ys : List E) (p r : Result ℕ ℕ) → IsSearchInRange p (length ys) → IsBinarySearchResult (λ e. rank (key e) k) ys p → ys ≡ xs → p ≡ r → Found key rank xs k r
+  searched_alike ys p r within there same handed =
+      let bound = subst (λ zs. IsSearchInRange p (length zs)) same within in
+      let position = subst (λ zs. IsBinarySearchResult (λ e. rank (key e) k) zs p) same there in
+      subst (λ q. Found key rank xs k q) handed (searched p bound position)

@@ -1,9 +1,17 @@
 ghost use Rattle.std.specs.Prelude.{◌≡◌};
+ghost use Rattle.std.specs.declared.cmp.Ordering.{Ordering as Rank};
 ghost use Rattle.ordered.specs.Total.{Total};
 
-// What a table is ordered by: keys that are one value where `cmp` calls them equal.
-pub trait Key: Ord {
-    ghost total: { Total Self.Ord.cmp };
+use std::cmp::Ordering;
+
+// What a table is ordered by: keys with a total order, which each type of keys proves.
+pub trait Key {
+    ghost ranks: { Self → Self → Rank };
+
+    ghost total: { Total ranks };
+
+    fn compare(&self, other: &Self) -> Ordering
+        ensures { result ≡ ranks self.now other.now };
 }
 
 // What a table holds: an entry has a key.

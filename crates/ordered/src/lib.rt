@@ -3,11 +3,10 @@
 // The first `count` entries of the slice are the table, and their keys ascend strictly. A search, an
 // insertion and a removal say what the table was and becomes, as a map from keys to entries
 // (specs/Table.antt and specs/Edits.antt); a table that is full refuses one more, and is as it was.
-// Keys go by `Ord`, whose laws each type of keys proves. What the entries mean is left to others.
+// Each type of keys proves that its order is total. What the entries mean is left to others.
 // A `Table` holds its entries itself, up to a fixed number. A `Row` holds items in the order they came in.
 #![tactic(auto)]
 
-mod address;
 mod edits;
 mod entry;
 mod keys;

@@ -11,7 +11,7 @@ mod methods;
 // At most `N` entries, ascending by their keys. No derived equality: it would read the places behind them.
 pub struct Table<E: Entry, const N: usize> {
     row: Row<E, N>,
-    ghost ascends: { ascending E.Entry.keyed E.Key.Ord.cmp (row_of row) ≡ true },
+    ghost ascends: { ascending E.Entry.keyed E.Key.Key.ranks (row_of row) ≡ true },
 }
 
 // By hand: over a ghost field `Clone` is not derived where a type is a parameter.

@@ -1,4 +1,8 @@
-use crate::{ByteKey, Entry, Full, Row, Table, find, insert, remove};
+ghost use Rattle.std.proofs.Common.{sym};
+ghost use Rattle.std.specs.Ordering.{nat_cmp};
+ghost use Rattle.ordered.specs.Orders.{numbers_total};
+
+use crate::{ByteKey, Entry, Full, Key, Row, Table, find, insert, remove};
 use std::cmp::Ordering;
 use std::process::Abort;
 use std::test::Fail;
@@ -79,9 +83,9 @@ fn orders_bytes_with_a_prefix_first(rt: HostRuntime) -> Result<(), Fail> {
     assert_eq!(rt; most.bytes().len(), 64);
     let one = ByteKey::new(b"k").ok_or(())?;
     let next = ByteKey::new(b"l").ok_or(())?;
-    assert_eq!(rt; one.cmp(&most), Ordering::Less);
-    assert_eq!(rt; most.cmp(&next), Ordering::Less);
-    assert_eq!(rt; one.cmp(&one), Ordering::Equal);
+    assert_eq!(rt; one.compare(&most), Ordering::Less);
+    assert_eq!(rt; most.compare(&next), Ordering::Less);
+    assert_eq!(rt; one.compare(&one), Ordering::Equal);
     Ok(())
 }
 
@@ -111,4 +115,48 @@ fn a_table_owns_its_entries(rt: HostRuntime) -> Result<(), Fail> {
     assert_eq!(rt; table.as_slice(), [owned(3, b'C')].as_slice());
     assert_eq!(rt; empty.as_slice().len(), 0);
     Ok(())
+}
+
+// A number without `Ord`, as a key of an order of its own: the higher number comes first.
+#[derive(Clone, Copy, Debug, PartialEq, Eq)]
+struct Down(u16);
+
+impl Key for Down {
+    ghost ranks = { λ a b. nat_cmp b.0 a.0 };
+
+    ghost total = { record {
+      same = λ x y e. λ i. record { 0 = sym (numbers_total.same y.0 x.0 e) i };
+      itself = λ x. numbers_total.itself x.0;
+      turned = λ x y. numbers_total.turned y.0 x.0;
+      chained = λ x y z p q. numbers_total.chained z.0 y.0 x.0 q p;
+    } };
+
+    fn compare(&self, other: &Down) -> Ordering {
+        other.0.cmp(&self.0)
+    }
+}
+
+impl Entry for Down {
+    type Key = Down;
+
+    ghost keyed = { λ d. d };
+
+    fn key(&self) -> &Down {
+        self
+    }
+}
+
+#[test]
+fn keys_go_by_an_order_of_their_own(rt: HostRuntime) {
+    let mut table: Table<Down, 3> = Table::new(Down(0));
+    assert_eq!(rt; table.insert(Down(1)), Ok(None));
+    assert_eq!(rt; table.insert(Down(3)), Ok(None));
+    assert_eq!(rt; table.insert(Down(2)), Ok(None));
+    assert_eq!(rt; table.insert(Down(4)), Err(Full));
+    assert_eq!(rt; table.as_slice(), [Down(3), Down(2), Down(1)].as_slice());
+    assert_eq!(rt; table.find(&Down(3)), Ok(0));
+    assert_eq!(rt; table.find(&Down(4)), Err(0));
+    assert_eq!(rt; table.find(&Down(0)), Err(3));
+    assert_eq!(rt; table.remove(&Down(2)), Some(Down(2)));
+    assert_eq!(rt; table.as_slice(), [Down(3), Down(1)].as_slice());
 }

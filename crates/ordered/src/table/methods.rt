@@ -22,14 +22,14 @@ impl<E: Entry, const N: usize> Table<E, N> {
     pub fn as_slice(&self) -> &[E]
         ensures value { result.now ≡ table_of self.now }
         ensures within { length result.now ≤ N }
-        ensures ascends { ascending E.Entry.keyed E.Key.Ord.cmp result.now ≡ true }
+        ensures ascends { ascending E.Entry.keyed E.Key.Key.ranks result.now ≡ true }
     {
         self.row.as_slice()
     }
 
     // Where the key stands in the table, or where it would have to stand.
     pub fn find(&self, key: &E::Key) -> Result<usize, usize>
-        ensures { Found E.Entry.keyed E.Key.Ord.cmp (table_of self.now) key.now result }
+        ensures { Found E.Entry.keyed E.Key.Key.ranks (table_of self.now) key.now result }
     {
         find(self.as_slice(), key)
     }

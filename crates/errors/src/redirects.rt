@@ -83,8 +83,10 @@ impl Redirect {
         ensures value { sent text.now result ≡ redirect text.now }
     {
         let error = ServerError::read(text);
+        // The kind first: behind a code that is not known the detail, which may be long, is not looked at.
+        let kind = error.kind?;
         let target = target_in(text, error.detail?)?;
-        match error.kind? {
+        match kind {
             ServerErrorKind::Moved => Some(Redirect::Moved(target)),
             ServerErrorKind::Ask => Some(Redirect::Ask(target)),
             _ => None,

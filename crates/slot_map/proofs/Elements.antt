@@ -12,7 +12,7 @@ use Rattle.resp.specs.declared.place.Head.TheVariants.{Simple, Error, Integer, B
 use Rattle.resp.specs.declared.place.Token.{Token}
 use Rattle.resp.specs.declared.place.Walk.{Walk}
 use Rattle.slot_map.specs.Answer.{array_of}
-use Rattle.slot_map.specs.Elements.{Come, Gives}
+use Rattle.slot_map.specs.Elements.{Onward, Come, Gives}
 use Rattle.slot_map.specs.Front.{Begins, Follow}
 use Rattle.slot_map.specs.declared.topology.elements.Elements.{Elements}
 use Rattle.std.specs.Borrow.{Bor}
@@ -129,21 +129,30 @@ pub record Turn (d : ℕ) (bs : List ℕ) (f : Elements) (vs : Values) (behind :
   pub rest : List ℕ
   pub is : vs ≡ more first others
   pub here : Begins d bs first rest
+  pub follow : Follow d f.count rest others behind
   pub come : Come d f others behind
 
 module _ {d : ℕ} {e : Elements} {vs : Values} {behind : List ℕ} (come : Come d e vs behind) (f : Elements) where
   pub no_more : Gives e None f → none ≡ vs
-  no_more h = none_left d e.bytes.now behind vs (subst (λ n. Follow d n e.bytes.now vs behind) h come.follow)
+  no_more h = none_left d come.front behind vs (subst (λ n. Follow d n come.front vs behind) h come.follow)
 
   module _ (r : Result (Bor (List ℕ)) Refusal) (gives : Gives e (Some r) f) where
-    next_one : Next d f.count e.bytes.now behind vs
-    next_one = next d f.count e.bytes.now behind vs (subst (λ n. Follow d n e.bytes.now vs behind) gives.0 come.follow)
+    next_one : Next d f.count come.front behind vs
+    next_one = next d f.count come.front behind vs (subst (λ n. Follow d n come.front vs behind) gives.0 come.follow)
 
-    found : IsOkAnd r (λ x. x.now ≡ e.bytes.now) × (f.bytes.now ≡ next_one.rest)
-    found = gives.2 next_one.first next_one.rest (subst (λ k. Begins k e.bytes.now next_one.first next_one.rest) (sym come.deep) next_one.here)
+    starts : Onward e.depth e.handed e.bytes.now come.front
+    starts = subst (λ k. Onward k e.handed e.bytes.now come.front) (sym come.deep) come.onward
+
+    found : IsOkAnd r (λ x. x.now ≡ come.front)
+    found = gives.2 come.front starts
+
+    passed : Onward d f.handed f.bytes.now next_one.rest
+    passed =
+        let here = subst (λ k. Begins k come.front next_one.first next_one.rest) (sym come.deep) next_one.here in
+        subst (λ k. Onward k f.handed f.bytes.now next_one.rest) come.deep (gives.3 come.front next_one.rest next_one.first starts here)
 
   never : (x : Refusal) → Gives e (Some (Err x)) f → ⊥
-  never x gives = (found (Err x) gives).0
+  never x gives = found (Err x) gives
 
   pub never_as : (r : Result (Bor (List ℕ)) Refusal) {x : Refusal} → r ≡ Err x → Gives e (Some r) f → ⊥
   never_as r {x} is gives = never x (subst (λ s. Gives e (Some s) f) is gives)
@@ -151,17 +160,14 @@ module _ {d : ℕ} {e : Elements} {vs : Values} {behind : List ℕ} (come : Come
   turn : (x : Bor (List ℕ)) → Gives e (Some (Ok x)) f → Turn d x.now f vs behind
   turn x gives =
       let n = next_one (Ok x) gives in
-      let here = found (Ok x) gives in
       record {
         first = n.first;
         others = n.others;
         rest = n.rest;
         is = n.is;
-        here = subst (λ l. Begins d l n.first n.rest) (sym here.0) n.here;
-        come = record {
-          deep = gives.1 ∙ come.deep;
-          follow = subst (λ l. Follow d f.count l n.others behind) (sym here.1) n.follow;
-        };
+        here = subst (λ l. Begins d l n.first n.rest) (sym (found (Ok x) gives)) n.here;
+        follow = n.follow;
+        come = record { deep = gives.1 ∙ come.deep; front = n.rest; onward = passed (Ok x) gives; follow = n.follow };
       }
 
   pub turn_as : {r : Result (Bor (List ℕ)) Refusal} {x : Bor (List ℕ)} → r ≡ Ok x → Gives e (Some r) f → Turn d x.now f vs behind

@@ -41,6 +41,44 @@ fn names_each_address_once(rt: HostRuntime) -> Result<(), Fail> {
     Ok(())
 }
 
+// How many ranges an answer has and how many addresses they name, and where the first begins.
+fn listed(answer: &[u8]) -> Result<(usize, usize, Option<u16>), Fail> {
+    let map = parse_slots(answer, b"h").map_err(|_| "a slot answer")?;
+    let nodes = map.addresses_for_all_nodes();
+    let first = map.ranges().first().map(|range| range.start());
+    Ok((map.ranges().len(), nodes.as_slice().len(), first))
+}
+
+#[test]
+fn skips_what_is_no_range(rt: HostRuntime) -> Result<(), Fail> {
+    let too_few = b"*1\r\n*1\r\n*3\r\n:1\r\n:1\r\n:1\r\n";
+    assert_eq!(rt; listed(too_few)?, (0, 0, None));
+    let first_an_array = b"*1\r\n*3\r\n*3\r\n:1\r\n:1\r\n:1\r\n:5\r\n*0\r\n";
+    assert_eq!(rt; listed(first_an_array)?, (0, 0, None));
+    let last_an_array = b"*1\r\n*3\r\n:0\r\n*3\r\n:1\r\n:1\r\n:1\r\n*0\r\n";
+    assert_eq!(rt; listed(last_an_array)?, (0, 0, None));
+    let no_node = b"*1\r\n*2\r\n:1\r\n:2\r\n";
+    assert_eq!(rt; listed(no_node)?, (0, 0, None));
+    let then_a_range =
+        b"*4\r\n*1\r\n*3\r\n:1\r\n:1\r\n:1\r\n*3\r\n*1\r\n:1\r\n:5\r\n*0\r\n*2\r\n:1\r\n:2\r\n*3\r\n:0007\r\n:9\r\n*2\r\n$1\r\na\r\n:1\r\n";
+    assert_eq!(rt; listed(then_a_range)?, (1, 1, Some(7)));
+    Ok(())
+}
+
+#[test]
+fn skips_what_is_no_node(rt: HostRuntime) -> Result<(), Fail> {
+    let host_alone = b"*1\r\n*3\r\n:0\r\n:5\r\n*1\r\n*3\r\n:1\r\n:1\r\n:1\r\n";
+    assert_eq!(rt; listed(host_alone)?, (0, 0, None));
+    let host_an_array = b"*1\r\n*3\r\n:0\r\n:5\r\n*2\r\n*3\r\n:1\r\n:1\r\n:1\r\n:1\r\n";
+    assert_eq!(rt; listed(host_an_array)?, (0, 0, None));
+    let port_an_array = b"*1\r\n*3\r\n:0\r\n:5\r\n*2\r\n$1\r\na\r\n*3\r\n:1\r\n:1\r\n:1\r\n";
+    assert_eq!(rt; listed(port_an_array)?, (0, 0, None));
+    let then_a_node =
+        b"*1\r\n*6\r\n:0\r\n:5\r\n*1\r\n*1\r\n:1\r\n*2\r\n*1\r\n:1\r\n:1\r\n*2\r\n$1\r\na\r\n*1\r\n:1\r\n*3\r\n$1\r\nb\r\n:2\r\n*1\r\n:1\r\n";
+    assert_eq!(rt; listed(then_a_node)?, (1, 1, Some(0)));
+    Ok(())
+}
+
 // An answer with so many ranges of one slot, each with so many replicas. All nodes have one address, or
 // each range has an address of its own.
 fn answer(out: &mut [u8], ranges: u16, replicas: u8, apart: bool) -> Option<usize> {

@@ -22,7 +22,7 @@ const FIELD: u32 = 5;
 fn port(bytes: &[u8]) -> Option<u16>
     ensures { Front 5 bytes.now (λ v rest. result ≡ answer_port v) }
 {
-    u16::try_from(integer(bytes)?).ok()
+    u16::try_from(integer(bytes)?.0).ok()
 }
 
 // The range with one node more, if the node is usable: the first is the primary.
@@ -71,6 +71,9 @@ impl<'a> SlotReader<'a> {
         ensures { Front 6 bytes.now (λ v rest. result ≡ answer_node self.entry.answering.now v) }
     {
         let mut fields = array(bytes, FIELD)?;
+        if fields.count < 2 {
+            return None;
+        }
         let host = self.host(fields.next()?.ok()?)?;
         let port = port(fields.next()?.ok()?)?;
         NodeAddress::new(host, port)

@@ -1,14 +1,14 @@
 ghost use Rattle.std.specs.Prelude.{◌≡◌, ◌≤◌, ℕ, List, ◌++◌, None, Ok, MatchOption};
 ghost use Rattle.std.specs.Option.{option_map, option_to_list};
 ghost use Rattle.resp.specs.Value.{Value};
-ghost use Rattle.slot_map.specs.Answer.{slot as answer_slot, slot_of, range as answer_range, ranges as answer_ranges};
+ghost use Rattle.slot_map.specs.Answer.{slot as answer_slot, range as answer_range, ranges as answer_ranges};
 ghost use Rattle.slot_map.specs.Elements.{Stand, Heads};
 ghost use Rattle.slot_map.specs.Front.{Front, Ranged, NoRange};
 ghost use Rattle.slot_map.specs.Range.{Range, range_of};
 ghost use Rattle.slot_map.specs.Tables.{Listed, Gathered};
 
 use super::SlotReader;
-use super::elements::{Elements, array, integer};
+use super::elements::{Elements, array};
 use crate::slot_range::{Bounds, SlotRange};
 use crate::slot_range_map::{MOST_RANGES, SlotRangeMap};
 use errors::Refusal;
@@ -25,19 +25,16 @@ fn slot_number(z: i64) -> u16
     z.rem_euclid(65536) as u16
 }
 
-// The slot at the front of `bytes`.
-fn slot(bytes: &[u8]) -> Option<u16>
-    ensures { Front 6 bytes.now (λ v rest. result ≡ slot_of v) }
-{
-    Some(slot_number(integer(bytes)?))
-}
-
 // The bounds of the range that has these elements, and its nodes.
 fn parts(mut elements: Elements<'_>) -> Option<(Bounds, Elements<'_>)>
     ensures { (v : Value) (rest : List ℕ) → Stand 6 elements.entry rest v → MatchOption result (NoRange v) (λ p. Heads p.0.start p.0.end p.1 rest v) }
 {
-    let start = slot(elements.next()?.ok()?)?;
-    let end = slot(elements.next()?.ok()?)?;
+    // Too few are told by their number, before any of them is read.
+    if elements.count < 3 {
+        return None;
+    }
+    let start = slot_number(elements.next_integer()?);
+    let end = slot_number(elements.next_integer()?);
     Some((Bounds { start, end }, elements))
 }
 

@@ -1,12 +1,12 @@
 use Rattle.std.proofs.Common.{◌∙◌}
-use Rattle.slot_map.proofs.Elements.{no_more, turn_ok, never_ok}
-use Rattle.slot_map.proofs.Nodes.{no_field, no_host, one_field, no_port, whole_node}
+use Rattle.slot_map.proofs.Elements.{turn_ok, never_ok}
+use Rattle.slot_map.proofs.Nodes.{few_fields, no_host, no_port, whole_node}
 use Rattle.slot_map.proofs.topology.SlotReader.node.Goals as goal
 
-pub returns-in_err-next : goal.returns-in_err-next
-returns-in_err-next c v rest begins =
+pub returns-then-fields-lt2 : goal.returns-then-fields-lt2
+returns-then-fields-lt2 c v rest begins =
     let stand = c.in_ok-fields.ensures v rest begins in
-    c.from_residual-in_err-next.ensures ∙ no_field c.args.self.answering.now v stand.values stand.is (no_more stand.come c.next.new.self c.in_err-next.ensures.steps)
+    few_fields c.args.self.answering.now 5 c.in_ok-fields.fields.count stand.come.front rest v c.if-fields-lt2.true (record { values = stand.values; is = stand.is; follow = stand.come.follow })
 
 pub returns-in_err-ok : goal.returns-in_err-ok
 returns-in_err-ok c v rest begins =
@@ -19,13 +19,6 @@ returns-in_err-host c v rest begins =
     let first = turn_ok stand.come c.next.new.self c.in_ok-next.field-0 c.in_ok-next.ensures.steps c.in_ok-ok.field-0 c.in_ok-ok.ensures.value in
     c.from_residual-in_err-host.ensures
     ∙ no_host c.args.self.answering.now v stand.values stand.is first.first first.others first.is (c.in_err-host.ensures first.first first.rest first.here)
-
-pub returns-in_err-next-2 : goal.returns-in_err-next-2
-returns-in_err-next-2 c v rest begins =
-    let stand = c.in_ok-fields.ensures v rest begins in
-    let first = turn_ok stand.come c.next.new.self c.in_ok-next.field-0 c.in_ok-next.ensures.steps c.in_ok-ok.field-0 c.in_ok-ok.ensures.value in
-    c.from_residual-in_err-next-2.ensures
-    ∙ one_field c.args.self.answering.now v stand.values stand.is first.first first.others first.is (no_more first.come c.next-2.new.self c.in_err-next-2.ensures.steps)
 
 pub returns-in_err-ok-2 : goal.returns-in_err-ok-2
 returns-in_err-ok-2 c v rest begins =

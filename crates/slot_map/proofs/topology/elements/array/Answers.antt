@@ -1,7 +1,6 @@
-use Rattle.std.proofs.Common.{refl, sym, subst}
+use Rattle.std.proofs.Common.{drop, refl}
 use Rattle.std.proofs.lemmas.List.{take_rest}
 use Rattle.resp.specs.declared.place.Head.TheVariants.{Array}
-use Rattle.slot_map.specs.Front.{Follow}
 use Rattle.slot_map.proofs.Elements.{kind, no_array, no_token}
 use Rattle.slot_map.proofs.topology.elements.array.Goals as goal
 
@@ -15,10 +14,7 @@ returns-in-Array c v rest begins =
     record {
       values = array.values;
       is = array.is;
-      come = record {
-        deep = refl;
-        follow = subst (λ l. Follow c.args.depth c.in-Array.count l array.values rest) (sym (take_rest c.args.bytes.now t.token.len)) array.follow;
-      };
+      come = record { deep = refl; front = drop t.token.len c.args.bytes.now; onward = take_rest c.args.bytes.now t.token.len; follow = array.follow };
     }
 
 pub returns-in_default : goal.returns-in_default

@@ -1,5 +1,5 @@
-ghost use Rattle.std.specs.Prelude.{◌≡◌, Some, map, OnErr};
-ghost use Rattle.report.specs.Ranges.{node_word, range_line, entry_ranges};
+ghost use Rattle.std.specs.Prelude.{◌≡◌, [], ◌∷◌, ◌++◌, length, take, Some, map, OnErr};
+ghost use Rattle.report.specs.Ranges.{node_word, range_line, range_lines, entry_ranges};
 ghost use Rattle.report.specs.Shown.{Added};
 ghost use Rattle.report.specs.Words.{spaced};
 ghost use Rattle.slot_map.specs.Range.{range_of};
@@ -42,6 +42,27 @@ impl fmt::Display for RangeLine<'_> {
     }
 }
 
+// The line of one range more; if memory fails, nothing is added.
+fn add_line(out: &mut Vec<u8>, heap: Global, range: &SlotRange) -> Result<(), AllocError>
+    ensures added { Added (range_line (range_of range.now) ++ (10 ∷ [])) out.old.items out.new.items result }
+    ensures same { OnErr result (out.new.items ≡ out.old.items) }
+{
+    let mut line = String::new(heap);
+    writeln!(line, "{}", RangeLine(range))?;
+    out.extend_from_slice(line.as_bytes())
+}
+
+// The lines of all ranges; if memory fails, as many as there was room for.
+fn add_lines(out: &mut Vec<u8>, heap: Global, ranges: &[SlotRange]) -> Result<(), AllocError>
+    ensures added { Added (range_lines (map range_of ranges.now)) out.old.items out.new.items result }
+    ensures kept { take (length out.old.items) out.new.items ≡ out.old.items }
+{
+    for range in ranges {
+        add_line(out, heap, range)?;
+    }
+    Ok(())
+}
+
 // The ranges of the slot table that the entry's bytes give, a line each. A tape does not say which host
 // answered: `-` stands for it.
 pub fn entry_ranges(
@@ -59,10 +80,10 @@ pub fn entry_ranges(
     let Ok(slots) = parse_slots(bytes, b"-") else {
         return Ok(());
     };
-    // One text first, so that a failure of memory adds nothing.
-    let mut lines = String::new(heap);
-    for range in slots.ranges() {
-        writeln!(lines, "{}", RangeLine(range))?;
+    let len = out.len();
+    let added = add_lines(out, heap, slots.ranges());
+    if added.is_err() {
+        out.truncate(len);
     }
-    out.extend_from_slice(lines.as_bytes())
+    added
 }

@@ -26,12 +26,8 @@ unfolding entry_ranges
 returns-in_default-parse_slots-clause-added c =
     unchanged _ _ (ap (λ k. entry_ranges k c.args.bytes.now) c.in-Answer.is ∙ ap table_lines (sym c.in_default-parse_slots.ensures))
 
-pub returns-clause-added : goal.returns-clause-added
+pub returns-else-is_err-clause-added : goal.returns-else-is_err-clause-added
 unfolding entry_ranges
-returns-clause-added c =
-    let out = c.args.out.now.items in
-    let new = c.extend_from_slice.new.self.items in
-    let all = take_all c.loop-range.range-index c.ranges-range-items.result.now c.loop-range-test.false in
-    let text = c.as_bytes.ensures.value ∙ c.loop-range.invariant ∙ ap (λ l. range_lines (map range_of l)) all ∙ ap range_lines c.ranges-range-items.ensures
-    ∙ ap table_lines c.in-Ok.ensures ∙ ap (λ k. entry_ranges k c.args.bytes.now) (sym c.in-Answer.is) in
-    subst (λ l. Added l out new c.extend_from_slice.result) text (extended c.as_bytes.result.now out new c.extend_from_slice.result c.extend_from_slice.ensures.items)
+returns-else-is_err-clause-added c =
+    let lines = ap range_lines c.ranges-2.ensures ∙ ap table_lines c.in-Ok.ensures ∙ ap (λ k. entry_ranges k c.args.bytes.now) (sym c.in-Answer.is) in
+    subst (λ l. Added l c.args.out.now.items c.add_lines-added.new.out.items c.add_lines-added.result) lines c.add_lines-added.ensures.added

@@ -83,6 +83,7 @@ pub fn entry_ranges(
     let len = out.len();
     let added = add_lines(out, heap, slots.ranges());
     if added.is_err() {
+        // Some lines may have had room: a failure of memory adds nothing.
         out.truncate(len);
     }
     added

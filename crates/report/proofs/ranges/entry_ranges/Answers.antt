@@ -1,10 +1,7 @@
-use Rattle.std.proofs.Common.{◌≡◌, ◌≢◌, ℕ, List, [], ◌++◌, map, sym, refl, ap, ◌∙◌, subst, append-nil}
-use Rattle.std.proofs.lemmas.List.{take_all}
+use Rattle.std.proofs.Common.{◌≡◌, ◌≢◌, ℕ, List, [], ◌++◌, sym, refl, ap, ◌∙◌, subst, append-nil}
 use Rattle.report.specs.Ranges.{range_lines, table_lines, entry_ranges}
 use Rattle.report.specs.Shown.{Added}
-use Rattle.report.proofs.Lines.{extended}
 use Rattle.report.proofs.ranges.entry_ranges.Goals as goal
-use Rattle.slot_map.specs.Range.{range_of}
 use Rattle.tape.specs.declared.entry.Kind.{Kind}
 use Rattle.tape.specs.declared.entry.Kind.TheVariants.{Answer, Dropped, Denied, Other}
 
